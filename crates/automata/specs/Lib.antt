@@ -1,0 +1,12 @@
+pub mod Lists
+pub mod Automaton
+pub mod Words
+pub mod Performing
+pub mod Exploration
+pub mod Counting
+pub mod Live
+pub mod Unfolding
+pub mod Search
+pub mod Pairs
+pub mod Joins
+pub mod Examples

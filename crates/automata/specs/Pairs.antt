@@ -1,0 +1,109 @@
+-- Pairs: two automata compared by the pairs of their live sets, and what makes an answer right.
+-- Renders document 01, 'Comparing', and demand 3. L is the limit on configurations, P the limit on pairs; document 01's are
+-- 256 and 512. Words are given by their letters' numbers; the two automata are to have the same alphabet.
+use mathlib.Core.Path.{_≡_}
+use mathlib.Core.Logic.{_↔_, _⊎_}
+use Prim.Native.Nat.{ℕ, _≤_}
+use mathlib.Core.List.{List, []}
+use mathlib.Core.Option.{Option, none, some}
+use mathlib.Core.Bool.{Bool, true, false, _&&_, not, Bool·beq, cond}
+use lib.ListN.{length}
+use Rattle.automata.specs.Lists.{sameBy}
+use Rattle.automata.specs.Automaton.{Automaton, letters, Accepts}
+use Rattle.automata.specs.Counting.{Counts}
+use Rattle.automata.specs.Live.{byLetter, meets}
+use Rattle.automata.specs.Unfolding.{configurations, plainArcs, finalSet, liveSet}
+use Rattle.automata.specs.Search.{Over, Entry, met, entries, firstOf}
+
+pub record Pair : Type 0 where
+  pub left : List Bool
+  pub right : List Bool
+
+unfoldable pub samePair : Pair → Pair → Bool
+unfolding sameBy
+samePair p q = sameBy Bool·beq (p .left) (q .left) && sameBy Bool·beq (p .right) (q .right)
+
+module _ (x y : Automaton) (L : ℕ) where
+  -- the pair of a word
+  unfoldable pub pairOf : List ℕ → Pair
+  unfolding liveSet
+  pairOf w = record { left = liveSet x L w; right = liveSet y L w }
+
+  -- the pair behind one letter more
+  unfoldable pub onward : Pair → ℕ → Pair
+  unfolding byLetter plainArcs
+  onward p a = record {
+    left = byLetter (length (configurations x L)) (plainArcs x L) (p .left) a;
+    right = byLetter (length (configurations y L)) (plainArcs y L) (p .right) a;
+  }
+
+  -- does the first, or the second, accept the words of the pair?
+  unfoldable pub firstAccepts : Pair → Bool
+  unfolding finalSet meets
+  firstAccepts p = meets (p .left) (finalSet x (configurations x L))
+
+  unfoldable pub secondAccepts : Pair → Bool
+  unfolding finalSet meets
+  secondAccepts p = meets (p .right) (finalSet y (configurations y L))
+
+  -- exactly one of the two accepts the words of the pair
+  unfoldable pub differs : Pair → Bool
+  unfolding firstAccepts secondAccepts
+  differs p = not (Bool·beq (firstAccepts p) (secondAccepts p))
+
+  -- the pairs in number order, once n of them have been walked; and the same, each with a word that has it
+  unfoldable pub pairs : ℕ → List Pair
+  unfolding samePair onward pairOf met
+  pairs n = met samePair onward (letters x) (pairOf []) n
+
+  unfoldable pub shown : ℕ → List (Entry Pair)
+  unfolding samePair onward pairOf entries
+  shown n = entries samePair onward (letters x) (pairOf []) n
+
+  -- the first pair that differs, with its word
+  unfoldable pub difference : ℕ → Option (Entry Pair)
+  unfolding firstOf differs shown
+  difference n = firstOf (λ e. differs (e .state)) (shown n)
+
+-- ---- the answer
+-- same, with the number of pairs; or different, with that number, the automaton (1 or 2) that accepts the word, and the word
+pub data Verdict : Type 0 where
+  same : (count : ℕ) → Verdict
+  different : (count taker : ℕ) (word : List ℕ) → Verdict
+
+module _ (x y : Automaton) (L : ℕ) where
+  unfoldable pub takerOf : Pair → ℕ
+  unfolding firstAccepts
+  takerOf p = cond (firstAccepts x y L p) 1 2
+
+  unfoldable pub judged : ℕ → Option (Entry Pair) → Verdict
+  unfolding takerOf
+  judged n none = same n
+  judged n (some e) = different n (takerOf (e .state)) (e .word)
+
+  unfoldable pub verdict : ℕ → Verdict
+  unfolding judged pairs difference
+  verdict P = judged (length (pairs x y L P)) (difference x y L P)
+
+-- ---- what makes it right, with no algorithm in sight
+-- exactly one of the two accepts the word
+abbrev pub OneAccepts : Automaton → Automaton → List ℕ → Type 0
+OneAccepts x y w = (Accepts x w × ¬ Accepts y w) ⊎ (¬ Accepts x w × Accepts y w)
+
+module _ (x y : Automaton) (L : ℕ) where
+  -- p is the pair of some word over the shared letters
+  pub record SomePair (p : Pair) : Type 0 where
+    pub word : List ℕ
+    pub over : Over (letters x) word
+    pub is : pairOf x y L word ≡ p
+
+-- exactly the automaton `taker` accepts the word v, and every word that exactly one accepts is at least as long
+pub record Shows (x y : Automaton) (taker : ℕ) (v : List ℕ) : Type 0 where
+  pub over : Over (letters x) v
+  pub by : ((taker ≡ 1) × Accepts x v × ¬ Accepts y v) ⊎ ((taker ≡ 2) × ¬ Accepts x v × Accepts y v)
+  pub shortest : (w : List ℕ) → OneAccepts x y w → length v ≤ length w
+
+-- the number is that of the distinct pairs; told the same, every word of every length is accepted by both or by neither
+abbrev pub Right : Automaton → Automaton → ℕ → Verdict → Type 0
+Right x y L (same n) = Counts (SomePair x y L) n × ((w : List ℕ) → Accepts x w ↔ Accepts y w)
+Right x y L (different n taker v) = Counts (SomePair x y L) n × Shows x y taker v

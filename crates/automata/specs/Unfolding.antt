@@ -1,0 +1,67 @@
+-- Unfolding: the configurations of an automaton, numbered; its plain arcs; the automaton without registers that they make.
+-- Renders document 01, 'Unfolding': configurations are walked in number order, arcs in file order, each new target gets the
+-- next number, each passing arc gives one plain arc. n is a limit on the walk; document 01's is 256.
+use Prim.Native.Nat.{ℕ, zero, suc}
+use mathlib.Core.List.{List, [], _∷_, _++_, map}
+use mathlib.Core.Bool.{Bool, _&&_}
+use lib.Dec.{eqb}
+use lib.ListN.{length}
+use Rattle.automata.specs.Lists.{sameBy}
+use Rattle.automata.specs.Automaton.{Op, reads, Arc, Automaton, Configuration, start}
+use Rattle.automata.specs.Performing.{Move, successors}
+use Rattle.automata.specs.Exploration.{known, number}
+use Rattle.automata.specs.Live.{PlainArc, live, in?, meets}
+
+unfoldable pub sameConfiguration : Configuration → Configuration → Bool
+unfolding sameBy
+sameConfiguration c d = eqb (c .state) (d .state) && sameBy eqb (c .contents) (d .contents)
+
+unfoldable pub targetsOf : Automaton → Configuration → List Configuration
+unfolding successors
+targetsOf x c = map (λ m. m .to) (successors x c)
+
+-- the configurations, in number order, that are known once n of them have been walked
+unfoldable pub configurations : Automaton → ℕ → List Configuration
+unfolding targetsOf sameConfiguration known
+configurations x n = known sameConfiguration (targetsOf x) (start x ∷ []) n
+
+-- the plain arcs that leave configuration number i
+unfoldable pub plainFrom : List Configuration → ℕ → List Move → List PlainArc
+unfolding number sameConfiguration
+plainFrom all i [] = []
+plainFrom all i (m ∷ ms) = record { source = i; letter = m .letter; target = number sameConfiguration (m .to) all } ∷ plainFrom all i ms
+
+unfoldable pub plainAll : Automaton → List Configuration → ℕ → List Configuration → List PlainArc
+unfolding plainFrom successors
+plainAll x all i [] = []
+plainAll x all i (c ∷ cs) = plainFrom all i (successors x c) ++ plainAll x all (suc i) cs
+
+-- all plain arcs, in the order met, repeats kept
+unfoldable pub plainArcs : Automaton → ℕ → List PlainArc
+unfolding plainAll configurations
+plainArcs x n = plainAll x (configurations x n) 0 (configurations x n)
+
+-- which of the configurations are final
+unfoldable pub finalSet : Automaton → List Configuration → List Bool
+finalSet x cs = map (λ c. in? (x .finals) (c .state)) cs
+
+-- ---- membership, by live sets
+unfoldable pub liveSet : Automaton → ℕ → List ℕ → List Bool
+unfolding plainArcs live
+liveSet x n w = live (length (configurations x n)) (plainArcs x n) w
+
+-- is the word accepted?
+unfoldable pub accepted : Automaton → ℕ → List ℕ → Bool
+unfolding liveSet finalSet meets
+accepted x n w = meets (liveSet x n w) (finalSet x (configurations x n))
+
+-- ---- the unfolded automaton: one register, one symbol, the same letters; each arc has one operation, the read of register 0
+abbrev pub readZero : List Op
+readZero = reads 0 0 ∷ []
+
+abbrev pub asArc : PlainArc → Arc
+asArc p = record { source = p .source; letter = p .letter; target = p .target; ops = readZero }
+
+unfoldable pub unfolded : Automaton → ℕ → Automaton
+unfolding plainArcs finalSet
+unfolded x n = record { alphabet = x .alphabet; registers = 1; symbols = 1; finals = finalSet x (configurations x n); arcs = map asArc (plainArcs x n) }

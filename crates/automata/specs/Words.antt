@@ -1,0 +1,29 @@
+-- Words: a word is handed in as bytes, each standing for the letter with that byte (document 01, 'Runs and slips').
+-- A byte that is no letter stands for nothing, so a word that has one is accepted by no run.
+use mathlib.Core.Path.{_≡_}
+use Prim.Native.Nat.{ℕ}
+use mathlib.Core.List.{List, [], _∷_}
+use mathlib.Core.Option.{Option, some}
+use lib.ListN.{getElem?}
+use Rattle.automata.specs.Automaton.{Automaton, Configuration, start, Produces, Run, Accepts}
+
+-- the bytes stand for the letters with these numbers
+abbrev pub Spells : List ℕ → List ℕ → List ℕ → Type 0
+Spells alphabet [] [] = Unit {0}
+Spells alphabet [] (k ∷ w) = ⊥
+Spells alphabet (byte ∷ s) [] = ⊥
+Spells alphabet (byte ∷ s) (k ∷ w) = (getElem? alphabet k ≡ some byte) × Spells alphabet s w
+
+-- P holds of the word that the bytes stand for
+pub record Spelled (alphabet : List ℕ) (P : List ℕ → Type 0) (s : List ℕ) : Type 0 where
+  pub word : List ℕ
+  pub spells : Spells alphabet s word
+  pub holds : P word
+
+-- the language of an automaton: the words, as bytes, that it accepts
+abbrev pub Language : Automaton → List ℕ → Type 0
+Language x s = Spelled (x .alphabet) (Accepts x) s
+
+-- the live set of a word: the configurations that runs spelling it end in
+abbrev pub LiveAfter : Automaton → List ℕ → Configuration → Type 0
+LiveAfter x s c = Spelled (x .alphabet) (λ w. Run (Produces x) (start x) w c) s
