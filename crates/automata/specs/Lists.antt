@@ -2,13 +2,18 @@
 use Prim.Native.Nat.{ℕ, zero, suc}
 use mathlib.Core.List.{List, [], _∷_}
 use mathlib.Core.Option.{Option, none, some}
-use mathlib.Core.Bool.{Bool, true, false, _||_, _&&_, Bool·beq}
+use mathlib.Core.Bool.{Bool, true, false, _||_, _&&_}
 use lib.Dec.{eqb}
 
 -- does one of them pass the test?
 unfoldable pub any : {A : Type 0} → (A → Bool) → List A → Bool
 any p [] = false
 any p (x ∷ l) = p x || any p l
+
+-- a, if the test passes
+abbrev pub only : {A : Type 0} → Bool → A → Option A
+only true a = some a
+only false a = none
 
 -- the result in front, where there is one
 abbrev pub prepend : {A : Type 0} → Option A → List A → List A
@@ -29,6 +34,11 @@ keep false l = []
 unfoldable pub countFrom : ℕ → ℕ → List ℕ
 countFrom i zero = []
 countFrom i (suc n) = i ∷ countFrom (suc i) n
+
+-- P holds of each
+abbrev pub Each : {A : Type 0} → (A → Type 0) → List A → Type 0
+Each P [] = Unit {0}
+Each P (x ∷ l) = P x × Each P l
 
 -- ---- are two of them the same?
 unfoldable pub sameLetter : Option ℕ → Option ℕ → Bool

@@ -4,16 +4,11 @@
 use Prim.Native.Nat.{ℕ}
 use mathlib.Core.List.{List, [], _∷_}
 use mathlib.Core.Option.{Option, none, some, Option·map, bind}
-use mathlib.Core.Bool.{Bool, true, false}
+use mathlib.Core.Bool.{Bool, false}
 use lib.ListN.{length, getElem?, set}
 use lib.Dec.{eqb, ltb}
-use Rattle.automata.specs.Lists.{collect}
+use Rattle.automata.specs.Lists.{only, collect}
 use Rattle.automata.specs.Automaton.{Op, reads, writes, Arc, Automaton, Configuration}
-
--- a, if the test passes
-abbrev pub only : {A : Type 0} → Bool → A → Option A
-only true a = some a
-only false a = none
 
 abbrev pub holds : Option ℕ → ℕ → Bool
 holds none γ = false
