@@ -15,6 +15,9 @@ use Rattle.automata.specs.Lists.{Each, any, collect, countFrom, keep, on
 pub none-some : {A : Type 0} {a : A} {C : Type 0} {o : Option A} → o ≡ none → o ≡ some a → C
 none-some p q = let z : _≡_ {A = ℕ} 0 1 = cc in absurd (omega arith)
 
+pub iff-trans : {A B C : Type 0} → A ↔ B → B ↔ C → A ↔ C
+iff-trans f g = (λ a. g .0 (f .0 a), λ c. f .1 (g .1 c))
+
 pub or-iff : (a b : Bool) → T (a || b) ↔ (T a ⊎ T b)
 or-iff true b = (λ t. inl tt, λ s. tt)
 or-iff false b = (λ t. inr t, λ s. ⊎-elim (λ t. absurd t) (λ t. t) s)

@@ -15,7 +15,7 @@ use Rattle.automata.specs.Exploration.{Distinct, later, number}
 use Rattle.automata.specs.Live.{Moves, PlainArc, in?, meets}
 use Rattle.automata.specs.Performing.{Move, successors}
 use Rattle.automata.specs.Unfolding.{accepted, configurations, finalSet, plainAll, plainArcs, plainFrom, sameConfiguration, targetsOf}
-use Rattle.automata.proofs.ExplorationLaws.{distinct-apart, known-complete, known-distinct, known-first, known-sound}
+use Rattle.automata.proofs.ExplorationLaws.{distinct-apart, known-complete, known-distinct, known-first, known-sound, number-at}
 use Rattle.automata.proofs.ListLaws.{and-iff, at-mem, eqb-iff, getElem?-lt, none-some, or-iff, sameBy-iff}
 use Rattle.automata.proofs.LiveLaws.{live-iff}
 use Rattle.automata.proofs.PerformingLaws.{successors-iff}
@@ -24,29 +24,6 @@ pub sameConfiguration-iff : (c d : Configuration) → T (sameConfiguration c d) 
 unfolding sameConfiguration
 sameConfiguration-iff c d = simp (and-iff, eqb-iff, sameBy-iff eqb eqb-iff)
     (λ p. λ i. record { state = p .0 i; contents = p .1 i }, λ e. (ap (λ (c : Configuration). c .state) e, ap (λ (c : Configuration). c .contents) e))
-
--- ---- the number of a member
-module _ {X : Type 0} (same : X → X → Bool) (eq : (x y : X) → T (same x y) ↔ (x ≡ y)) where
-  pub number-at : {x : X} {l : List X} → List·Memᴰ x l → getElem? l (number same x l) ≡ some x
-  unfolding number
-  number-at {x} (List·Memᴰ·head {x = y} {xs = l} e) = go (same x y) refl
-    where
-      go : (b : Bool) → same x y ≡ b → getElem? (y ∷ l) (number same x (y ∷ l)) ≡ some x
-      go true q = rw q (rw e)
-      go false q = absurd (rw q at ((eq x y) .1 e))
-  number-at {x} (List·Memᴰ·tail {x = y} {xs = l} m) = go (number-at m) (same x y) refl
-    where
-      go : getElem? l (number same x l) ≡ some x → (b : Bool) → same x y ≡ b → getElem? (y ∷ l) (number same x (y ∷ l)) ≡ some x
-      go ih true q = rw q (ap some (sym ((eq x y) .0 (rw q tt))))
-      go ih false q = rw q ih
-
-  -- no one has two numbers
-  pub one-number : (l : List X) (i j : ℕ) {x : X} → Distinct same l → getElem? l i ≡ some x → getElem? l j ≡ some x → i ≡ j
-  one-number [] i j d p q = none-some refl p
-  one-number (y ∷ l) zero zero d p q = refl
-  one-number (y ∷ l) zero (suc j) {x} d p q = absurd (d .0 x (at-mem l j q) ((eq x y) .1 (sym (Option·some-injective y x p))))
-  one-number (y ∷ l) (suc i) zero {x} d p q = absurd (d .0 x (at-mem l i p) ((eq x y) .1 (sym (Option·some-injective y x q))))
-  one-number (y ∷ l) (suc i) (suc j) d p q = ap suc (one-number l i j (d .1) p q)
 
 -- ---- the plain arcs
 record Listed (b : Automaton) (all : List Configuration) (i : ℕ) (cs : List Configuration) (a : PlainArc) : Type 0 where

@@ -8,6 +8,7 @@ use mathlib.Core.List.{List, [], _∷_, List·Memᴰ}
 use mathlib.Core.Option.{Option, none, some}
 use mathlib.Core.Bool.{Bool, true}
 use lib.ListN.{length, getElem?, replicate}
+use Rattle.automata.specs.Counting.{Apart}
 
 -- an operation on a register: (R, i, γ) or (W, i, γ)
 pub data Op : Type 0 where
@@ -69,6 +70,11 @@ pub data Run {X : Type 0} (Moves : X → Option ℕ → X → Type 0) : X → Li
   silent : {x y z : X} {w : List ℕ} → Moves x none y → Run Moves y w z → Run Moves x w z
   spell : {x y z : X} {a : ℕ} {w : List ℕ} → Moves x (some a) y → Run Moves y w z → Run Moves x (a ∷ w) z
 
+-- a configuration that a run over some word ends in
+pub record Reachable (x : Automaton) (c : Configuration) : Type 0 where
+  pub word : List ℕ
+  pub run : Run (Produces x) (start x) word c
+
 abbrev pub Final : Automaton → ℕ → Type 0
 Final x s = getElem? (x .finals) s ≡ some true
 
@@ -97,6 +103,7 @@ KeepsZero (writes (suc i) γ) = Unit {0}
 pub record WellFormed (x : Automaton) : Type 0 where
   pub some-state : 0 < states x
   pub some-register : 0 < x .registers
+  pub letters-apart : Apart (x .alphabet)
   pub sources : (a : Arc) → List·Memᴰ a (x .arcs) → a .source < states x
   pub targets : (a : Arc) → List·Memᴰ a (x .arcs) → a .target < states x
   pub lettered : (a : Arc) → List·Memᴰ a (x .arcs) → (l : ℕ) → a .letter ≡ some l → l < letters x

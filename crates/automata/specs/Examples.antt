@@ -1,13 +1,16 @@
 -- Examples: document 01's automata T, V, K and S, and its table of checked words and automata ('Checked slips and books').
 -- proofs/ExampleLaws.antt has the one theorem over the rows.
 use Prim.Native.Nat.{ℕ}
+use mathlib.Core.Path.{_≡_}
 use mathlib.Core.List.{List, [], _∷_}
 use mathlib.Core.Option.{some}
-use mathlib.Core.Bool.{Bool, true, false}
-use Rattle.automata.specs.Automaton.{Op, reads, writes, Arc, Automaton}
+use mathlib.Core.Bool.{true, false}
+use lib.ListN.{length}
+use Rattle.automata.specs.Counting.{Counts}
+use Rattle.automata.specs.Automaton.{Op, reads, writes, Arc, Automaton, Reachable}
 use Rattle.automata.specs.Words.{Language}
-use Rattle.automata.specs.Unfolding.{readZero}
-use Rattle.automata.specs.Joins.{arcFrom, union, concatenation, intersection, closure}
+use Rattle.automata.specs.Unfolding.{plainArcs, readZero}
+use Rattle.automata.specs.Joins.{arcFrom, concatenation, intersection, closure}
 
 -- the letters' bytes
 abbrev pub a : ℕ
@@ -47,36 +50,31 @@ automatonK = record { alphabet = c ∷ []; registers = 2; symbols = 2; finals = 
 unfoldable pub automatonS : Automaton
 automatonS = record { alphabet = a ∷ b ∷ []; registers = 1; symbols = 1; finals = false ∷ true ∷ []; arcs = arc 0 0 0 readZero ∷ arc 0 1 1 readZero ∷ [] }
 
--- the automaton accepts the word, or does not
-pub data Answer : Type 0 where
-  accepts rejects : Answer
+-- ---- the table
+pub data Row : Type 0 where
+  accepts rejects : (x : Automaton) (word : List ℕ) → Row
+  reaches unfolds-to : (x : Automaton) (many : ℕ) → Row
 
-pub record Row : Type 0 where
-  pub automaton : Automaton
-  pub word : List ℕ
-  pub answer : Answer
-
-abbrev pub Holds : Row → Type 0
-Holds r = says (r .answer)
-  where
-    says : Answer → Type 0
-    says accepts = Language (r .automaton) (r .word)
-    says rejects = ¬ Language (r .automaton) (r .word)
-
-abbrev row : Automaton → Answer → List ℕ → Row
-row x t w = record { automaton = x; word = w; answer = t }
+-- what a row says; L is the limit on configurations
+abbrev pub Holds : ℕ → Row → Type 0
+Holds L (accepts x w) = Language x w
+Holds L (rejects x w) = ¬ Language x w
+Holds L (reaches x n) = Counts (Reachable x) n
+Holds L (unfolds-to x n) = length (plainArcs x L) ≡ n
 
 unfoldable pub rows : List Row
-unfolding automatonT automatonV automatonK automatonS union concatenation intersection closure
-rows = row automatonT accepts (c ∷ c ∷ [])
-    ∷ row automatonT accepts (c ∷ m ∷ m ∷ c ∷ [])
-    ∷ row automatonT accepts (e ∷ m ∷ e ∷ [])
-    ∷ row automatonT rejects (c ∷ e ∷ [])
-    ∷ row automatonT rejects (c ∷ [])
-    ∷ row automatonT rejects []
-    ∷ row (concatenation automatonK automatonK) accepts (c ∷ c ∷ [])
-    ∷ row (closure automatonK) accepts (c ∷ c ∷ c ∷ [])
-    ∷ row (closure automatonS) accepts []
-    ∷ row (closure automatonS) rejects (a ∷ [])
-    ∷ row (intersection automatonT automatonV) accepts (c ∷ c ∷ [])
-    ∷ row (intersection automatonT automatonV) rejects (e ∷ e ∷ []) ∷ []
+unfolding automatonT automatonV automatonK automatonS concatenation intersection closure
+rows = accepts automatonT (c ∷ c ∷ [])
+    ∷ accepts automatonT (c ∷ m ∷ m ∷ c ∷ [])
+    ∷ accepts automatonT (e ∷ m ∷ e ∷ [])
+    ∷ rejects automatonT (c ∷ e ∷ [])
+    ∷ rejects automatonT (c ∷ [])
+    ∷ rejects automatonT []
+    ∷ reaches automatonT 5
+    ∷ unfolds-to automatonT 6
+    ∷ accepts (concatenation automatonK automatonK) (c ∷ c ∷ [])
+    ∷ accepts (closure automatonK) (c ∷ c ∷ c ∷ [])
+    ∷ accepts (closure automatonS) []
+    ∷ rejects (closure automatonS) (a ∷ [])
+    ∷ accepts (intersection automatonT automatonV) (c ∷ c ∷ [])
+    ∷ rejects (intersection automatonT automatonV) (e ∷ e ∷ []) ∷ []

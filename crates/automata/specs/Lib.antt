@@ -1,9 +1,9 @@
 pub mod Lists
+pub mod Counting
 pub mod Automaton
+pub mod Exploration
 pub mod Words
 pub mod Performing
-pub mod Exploration
-pub mod Counting
 pub mod Live
 pub mod Unfolding
 pub mod Search

@@ -3,14 +3,16 @@
 -- next number, each passing arc gives one plain arc. n is a limit on the walk; document 01's is 256.
 use Prim.Native.Nat.{ℕ, zero, suc}
 use mathlib.Core.List.{List, [], _∷_, _++_, map}
-use mathlib.Core.Bool.{Bool, _&&_}
+use mathlib.Core.Option.{Option, none, some}
+use mathlib.Core.Bool.{Bool, false, _&&_}
 use lib.Dec.{eqb}
 use lib.ListN.{length}
 use Rattle.automata.specs.Lists.{sameBy}
 use Rattle.automata.specs.Automaton.{Op, reads, Arc, Automaton, Configuration, start}
+use Rattle.automata.specs.Words.{spelling}
 use Rattle.automata.specs.Performing.{Move, successors}
 use Rattle.automata.specs.Exploration.{known, number}
-use Rattle.automata.specs.Live.{PlainArc, live, in?, meets}
+use Rattle.automata.specs.Live.{PlainArc, live, in?, count, meets}
 
 unfoldable pub sameConfiguration : Configuration → Configuration → Bool
 unfolding sameBy
@@ -54,6 +56,20 @@ liveSet x n w = live (length (configurations x n)) (plainArcs x n) w
 unfoldable pub accepted : Automaton → ℕ → List ℕ → Bool
 unfolding liveSet finalSet meets
 accepted x n w = meets (liveSet x n w) (finalSet x (configurations x n))
+
+-- a word of bytes: one that has a byte that is no letter is not accepted and leaves nothing live
+abbrev pub spelledOr : {A : Type 0} → A → (List ℕ → A) → Option (List ℕ) → A
+spelledOr none-spelled f none = none-spelled
+spelledOr none-spelled f (some w) = f w
+
+unfoldable pub acceptedBytes : Automaton → ℕ → List ℕ → Bool
+unfolding accepted spelling
+acceptedBytes x n s = spelledOr false (accepted x n) (spelling (x .alphabet) s)
+
+-- how many configurations are live after the word
+unfoldable pub liveCount : Automaton → ℕ → List ℕ → ℕ
+unfolding liveSet count spelling
+liveCount x n s = spelledOr 0 (λ w. count (liveSet x n w)) (spelling (x .alphabet) s)
 
 -- ---- the unfolded automaton: one register, one symbol, the same letters; each arc has one operation, the read of register 0
 abbrev pub readZero : List Op

@@ -3,8 +3,11 @@
 use mathlib.Core.Path.{_≡_}
 use Prim.Native.Nat.{ℕ}
 use mathlib.Core.List.{List, [], _∷_}
-use mathlib.Core.Option.{Option, some}
-use lib.ListN.{getElem?}
+use mathlib.Core.Option.{Option, some, Option·map, bind}
+use lib.ListN.{length, getElem?}
+use lib.Dec.{eqb, ltb}
+use Rattle.automata.specs.Lists.{only}
+use Rattle.automata.specs.Exploration.{number}
 use Rattle.automata.specs.Automaton.{Automaton, Configuration, start, Produces, Run, Accepts}
 
 -- the bytes stand for the letters with these numbers
@@ -14,6 +17,19 @@ Spells alphabet [] (k ∷ w) = ⊥
 Spells alphabet (byte ∷ s) [] = ⊥
 Spells alphabet (byte ∷ s) (k ∷ w) = (getElem? alphabet k ≡ some byte) × Spells alphabet s w
 
+-- ---- the numbers, computed
+-- the number of the letter with this byte
+unfoldable pub letterWith : List ℕ → ℕ → Option ℕ
+unfolding number
+letterWith alphabet byte = only (ltb (number eqb byte alphabet) (length alphabet)) (number eqb byte alphabet)
+
+-- the numbers of the letters that the bytes stand for, or none where a byte is no letter
+unfoldable pub spelling : List ℕ → List ℕ → Option (List ℕ)
+unfolding letterWith bind
+spelling alphabet [] = some []
+spelling alphabet (byte ∷ s) = bind (letterWith alphabet byte) (λ k. Option·map (λ w. k ∷ w) (spelling alphabet s))
+
+-- ---- languages
 -- P holds of the word that the bytes stand for
 pub record Spelled (alphabet : List ℕ) (P : List ℕ → Type 0) (s : List ℕ) : Type 0 where
   pub word : List ℕ
@@ -22,7 +38,7 @@ pub record Spelled (alphabet : List ℕ) (P : List ℕ → Type 0) (s : List ℕ
 
 -- the language of an automaton: the words, as bytes, that it accepts
 abbrev pub Language : Automaton → List ℕ → Type 0
-Language x s = Spelled (x .alphabet) (Accepts x) s
+Language x = Spelled (x .alphabet) (Accepts x)
 
 -- the live set of a word: the configurations that runs spelling it end in
 abbrev pub LiveAfter : Automaton → List ℕ → Configuration → Type 0
