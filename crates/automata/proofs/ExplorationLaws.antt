@@ -12,7 +12,7 @@ use native.Mathlib.Nat.{add-suc, add-zero, le-of-suc-le-suc, not-suc-le-zero}
 use native.Mathlib.Omega.{arith}
 use Rattle.automata.specs.Automaton.{start}
 use Rattle.automata.specs.Counting.{Apart, Counts, MoreThan}
-use Rattle.automata.specs.Exploration.{Distinct, Reach, add, addAll, first, has, known, later, number, targets, walk}
+use Rattle.automata.specs.Exploration.{Distinct, Reach, add, addAll, first, has, known, later, targets, walk}
 use Rattle.automata.proofs.ListLaws.{any-iff, at-mem, getElem?-append, getElem?-lt, getElem?-none, getElem?-some, mem-at, none-some, snoc-at-cases}
 
 module _ {X : Type 0} (same : X → X → Bool) where
@@ -326,40 +326,3 @@ module _ {X : Type 0} (same : X → X → Bool) (next : X → List X) (s₀ : X)
           let f = same-next v (u .it) x (u .alike) m in
           let g = short-walked n (u .place) (u .it) (f .0) (omega (arith, getElem?-lt (upto n) (u .place) (u .stands))) (u .stands) (f .1) in
           record { it = g .it; place = g .place; stands = g .stands; alike = same-trans x (f .0) (g .it) (f .2) (g .alike); short = omega (arith, g .short, u .short, next-size v x m) }
-
--- ---- the number of a member
-module _ {X : Type 0} (same : X → X → Bool) (eq : (x y : X) → T (same x y) ↔ (x ≡ y)) where
-  pub number-at : {x : X} {l : List X} → List·Memᴰ x l → getElem? l (number same x l) ≡ some x
-  unfolding number
-  number-at {x} (List·Memᴰ·head {x = y} {xs = l} e) = go (same x y) refl
-    where
-      go : (b : Bool) → same x y ≡ b → getElem? (y ∷ l) (number same x (y ∷ l)) ≡ some x
-      go true q = rw q (rw e)
-      go false q = absurd (rw q at ((eq x y) .1 e))
-  number-at {x} (List·Memᴰ·tail {x = y} {xs = l} m) = go (number-at m) (same x y) refl
-    where
-      go : getElem? l (number same x l) ≡ some x → (b : Bool) → same x y ≡ b → getElem? (y ∷ l) (number same x (y ∷ l)) ≡ some x
-      go ih true q = rw q (ap some (sym ((eq x y) .0 (rw q tt))))
-      go ih false q = rw q ih
-
-  -- no one has two numbers
-  pub one-number : (l : List X) (i j : ℕ) {x : X} → Distinct same l → getElem? l i ≡ some x → getElem? l j ≡ some x → i ≡ j
-  one-number [] i j d p q = none-some refl p
-  one-number (y ∷ l) zero zero d p q = refl
-  one-number (y ∷ l) zero (suc j) {x} d p q = absurd (d .0 x (at-mem l j q) ((eq x y) .1 (sym (Option·some-injective y x p))))
-  one-number (y ∷ l) (suc i) zero {x} d p q = absurd (d .0 x (at-mem l i p) ((eq x y) .1 (sym (Option·some-injective y x q))))
-  one-number (y ∷ l) (suc i) (suc j) d p q = ap suc (one-number l i j (d .1) p q)
-
-  -- a number below the length is that of a member
-  pub number-found : (x : X) (l : List X) → number same x l < length l → getElem? l (number same x l) ≡ some x
-  unfolding number
-  number-found x [] h = absurd (not-suc-le-zero h)
-  number-found x (y ∷ l) h = go (number-found x l) (same x y) refl
-    where
-      go : (number same x l < length l → getElem? l (number same x l) ≡ some x) → (b : Bool) → same x y ≡ b → getElem? (y ∷ l) (number same x (y ∷ l)) ≡ some x
-      go ih true q = rw q (ap some (sym ((eq x y) .0 (rw q tt))))
-      go ih false q = rw q (ih (le-of-suc-le-suc (rw q at h)))
-
-  pub apart-distinct : (l : List X) → Apart l → Distinct same l
-  apart-distinct [] d = tt
-  apart-distinct (x ∷ l) d = (λ y k t. d .0 (rw ((eq y x) .0 t) at k), apart-distinct l (d .1))

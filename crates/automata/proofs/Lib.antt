@@ -3,6 +3,7 @@ pub mod RunLaws
 pub mod PerformingLaws
 pub mod CountingLaws
 pub mod ExplorationLaws
+pub mod NumberLaws
 pub mod Mapped
 pub mod WordLaws
 pub mod LiveLaws

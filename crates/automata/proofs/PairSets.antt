@@ -12,9 +12,9 @@ use Rattle.automata.specs.Automaton.{Automaton, Configuration, Produces,
 use Rattle.automata.specs.Live.{Moves, byLetter, epsilonClosure, in?, live, liveFrom, table}
 use Rattle.automata.specs.Pairs.{Pair, pairOf}
 use Rattle.automata.specs.Unfolding.{configurations, plainArcs, sameConfiguration}
-use Rattle.automata.proofs.ExplorationLaws.{one-number}
 use Rattle.automata.proofs.ListLaws.{getElem?-lt, getElem?-some}
 use Rattle.automata.proofs.LiveLaws.{length-byLetter, length-rounds, length-table, live-iff}
+use Rattle.automata.proofs.NumberLaws.{one-number}
 use Rattle.automata.proofs.UnfoldingLaws.{distinct, first-configuration, runs-from, runs-to, sameConfiguration-iff, within}
 
 abbrev pub LiveAt : Automaton → List ℕ → Configuration → Type 0

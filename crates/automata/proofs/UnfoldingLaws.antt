@@ -15,9 +15,10 @@ use Rattle.automata.specs.Exploration.{Distinct, later, number}
 use Rattle.automata.specs.Live.{Moves, PlainArc, in?, meets}
 use Rattle.automata.specs.Performing.{Move, successors}
 use Rattle.automata.specs.Unfolding.{accepted, configurations, finalSet, plainAll, plainArcs, plainFrom, sameConfiguration, targetsOf}
-use Rattle.automata.proofs.ExplorationLaws.{distinct-apart, known-complete, known-distinct, known-first, known-sound, number-at}
+use Rattle.automata.proofs.ExplorationLaws.{distinct-apart, known-complete, known-distinct, known-first, known-sound}
 use Rattle.automata.proofs.ListLaws.{and-iff, at-mem, eqb-iff, getElem?-lt, none-some, or-iff, sameBy-iff}
 use Rattle.automata.proofs.LiveLaws.{live-iff}
+use Rattle.automata.proofs.NumberLaws.{number-at}
 use Rattle.automata.proofs.PerformingLaws.{successors-iff}
 
 pub sameConfiguration-iff : (c d : Configuration) → T (sameConfiguration c d) ↔ (c ≡ d)

@@ -10,10 +10,11 @@ use mathlib.Core.List.{List, [], _++_, _∷_}
 use mathlib.Core.Option.{Option·some-injective, bind-eq-some-iff, map-eq-some-iff, some}
 use native.Mathlib.Omega.{arith}
 use Rattle.automata.specs.Counting.{Apart}
+use Rattle.automata.specs.Exploration.{first}
 use Rattle.automata.specs.Joins.{Split, Star, more, nothing}
 use Rattle.automata.specs.Words.{Spelled, Spells, letterWith, spelling}
-use Rattle.automata.proofs.ExplorationLaws.{apart-distinct, number-at, number-found, one-number}
 use Rattle.automata.proofs.ListLaws.{at-mem, eqb-iff, getElem?-lt, only-iff}
+use Rattle.automata.proofs.NumberLaws.{apart-distinct, number-at, number-found, one-number}
 
 module _ (alphabet : List ℕ) (apart : Apart alphabet) where
   letterWith-iff : (byte k : ℕ) → (letterWith alphabet byte ≡ some k) ↔ (getElem? alphabet k ≡ some byte)
