@@ -3,7 +3,7 @@ use mathlib.Core.Path.{_∙_, _≡_, ap, refl, subst, sym}
 use mathlib.Core.Logic.{_↔_, _≢_, _⊎_, inl, inr, ⊎-elim}
 use Prim.Native.Nat.{_+_, _<_, _≤_, suc, suc-le-suc, zero, zero-le, ℕ}
 use lib.Dec.{T, eqb, eqb-refl, eqb→eq}
-use lib.ListN.{getElem?, length, set}
+use lib.ListN.{getD, getElem?, length, set}
 use mathlib.Core.Bool.{Bool, Bool·beq, _&&_, _||_, false, not, true}
 use mathlib.Core.List.{List, List·Memᴰ, List·Memᴰ·append-cases, List·Memᴰ·cases-cons, List·Memᴰ·head, List·Memᴰ·not-nil, List·Memᴰ·tail, Memᴰ·append-left, Memᴰ·append-right, [], _++_, _∷_, flatMap, map}
 use mathlib.Core.Option.{Option, Option·map, Option·some-injective, none, some}
@@ -52,6 +52,16 @@ pub getElem?-lt : {A : Type 0} (l : List A) (i : ℕ) {x : A} → getElem? l i �
 getElem?-lt [] i e = none-some refl e
 getElem?-lt (y ∷ l) zero e = suc-le-suc zero-le
 getElem?-lt (y ∷ l) (suc i) e = suc-le-suc (getElem?-lt l i e)
+
+pub at-some : {A : Type 0} (l : List A) (i : ℕ) (d : A) → i < length l → getElem? l i ≡ some (getD l i d)
+at-some [] i d h = absurd (not-suc-le-zero h)
+at-some (y ∷ l) zero d h = refl
+at-some (y ∷ l) (suc i) d h = at-some l i d (le-of-suc-le-suc h)
+
+pub at-none : {A : Type 0} (l : List A) (i : ℕ) → length l ≤ i → getElem? l i ≡ none
+at-none [] i h = refl
+at-none (y ∷ l) zero h = absurd (not-suc-le-zero h)
+at-none (y ∷ l) (suc i) h = at-none l i (le-of-suc-le-suc h)
 
 pub at-mem : {A : Type 0} (l : List A) (i : ℕ) {x : A} → getElem? l i ≡ some x → List·Memᴰ x l
 at-mem [] i e = none-some refl e
