@@ -8,15 +8,19 @@ use lib.ListN.{getElem?}
 use lib.Dec.{T}
 use Rattle.automata.specs.Lists.{any}
 
+abbrev pub unlessHad : {X : Type 0} → Bool → List X → X → List X
+unlessHad true l x = l
+unlessHad false l x = l ++ x ∷ []
+
+abbrev pub firstOr : Bool → ℕ → ℕ
+firstOr true n = 0
+firstOr false n = suc n
+
 module _ {X : Type 0} (same : X → X → Bool) where
   -- does the list hold the same as x?
   unfoldable pub has : X → List X → Bool
   unfolding any
   has x l = any (same x) l
-
-  abbrev pub unlessHad : Bool → List X → X → List X
-  unlessHad true l x = l
-  unlessHad false l x = l ++ x ∷ []
 
   -- x at the end, if it is new
   unfoldable pub add : List X → X → List X
@@ -27,10 +31,6 @@ module _ {X : Type 0} (same : X → X → Bool) where
   unfolding add
   addAll l [] = l
   addAll l (x ∷ xs) = addAll (add l x) xs
-
-  abbrev pub firstOr : Bool → ℕ → ℕ
-  firstOr true n = 0
-  firstOr false n = suc n
 
   -- the number of the first that is the same as x; the length of the list where there is none
   unfoldable pub number : X → List X → ℕ
