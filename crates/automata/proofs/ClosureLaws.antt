@@ -18,7 +18,7 @@ use Rattle.automata.specs.Lists.{countFrom}
 use Rattle.automata.specs.Performing.{act, holds, perform}
 use Rattle.automata.specs.Unfolding.{readZero}
 use Rattle.automata.proofs.ListLaws.{T-true, none-some}
-use Rattle.automata.proofs.Parts.{Beside, Laid, Layout, Own, back, finalStates-iff, image, into, own-kept, own-start, zeros, zeros-at}
+use Rattle.automata.proofs.Parts.{Beside, Cut, Laid, Layout, Own, back, cut-here, cut-silent, cut-spell, finalStates-iff, image, into, own-kept, own-start, zeros, zeros-at}
 use Rattle.automata.proofs.PerformingLaws.{perform-iff}
 use Rattle.automata.proofs.RunLaws.{carried, joined}
 
@@ -137,33 +137,22 @@ module _ (a : Automaton) (va : WellFormed a) where
       let run : Run (Produces u) once w (g .0) = rw e (g .1) in
       record { end = g .0; run = silent enters run; final = g .2 }
 
-  -- a run of a from c that spells the left part, and a sequence of accepted words behind it
-  record Cut (c : Configuration) (w : List ℕ) : Type 0 where
-    left : List ℕ
-    right : List ℕ
-    whole : w ≡ left ++ right
-    end : Configuration
-    run : Run (Produces a) c left end
-    final : Final a (end .state)
-    rest : Star (Accepts a) right
-
-  cut-star : {w : List ℕ} → Cut (start a) w → Star (Accepts a) w
+  cut-star : {w : List ℕ} → Cut a (Star (Accepts a)) (start a) w → Star (Accepts a) w
   cut-star s = more (s .left) (s .right) (s .whole) (record { end = s .end; run = s .run; final = s .final }) (s .rest)
 
-  inA : {w : List ℕ} (c d d′ : Configuration) → Beside lay a c d → Run (Produces u) d w d′ → Final u (d′ .state) → Cut c w
-  inA c d d′ r stay f = record { left = []; right = []; whole = refl; end = c; run = stay; final = (finalA (c .state)) .0 (rw (r .at) at f); rest = nothing }
+  inA : {w : List ℕ} (c d d′ : Configuration) → Beside lay a c d → Run (Produces u) d w d′ → Final u (d′ .state) → Cut a (Star (Accepts a)) c w
+  inA c d d′ r stay f = cut-here ((finalA (c .state)) .0 (rw (r .at) at f)) nothing
   inA c d d′ r (silent {y = y} {w = w} m q) f = go (λ c′ r′. inA c′ y d′ r′ q f) (whence (m .arc) (m .listed))
     where
-      go : ((c′ : Configuration) → Beside lay a c′ y → Cut c′ w) → Whence (m .arc) → Cut c w
+      go : ((c′ : Configuration) → Beside lay a c′ y → Cut a (Star (Accepts a)) c′ w) → Whence (m .arc) → Cut a (Star (Accepts a)) c w
       go ih (entry e) = absurd (omega (arith, ap (λ (y : Arc). y .source) e, m .leaves, r .at))
       go ih (ofA x k e) =
           let s = back lay a u va laid c d y none r m x k e (omega (arith, ap (λ (y : Arc). y .source) e, m .leaves, r .at)) in
-          let t = ih (s .0) (s .2) in
-          record { left = t .left; right = t .right; whole = t .whole; end = t .end; run = silent (s .1) (t .run); final = t .final; rest = t .rest }
+          cut-silent (s .1) (ih (s .0) (s .2))
       go ih (again s g e) =
           let here : s ≡ c .state = omega (arith, ap (λ (y : Arc). y .source) e, m .leaves, r .at) in
           let there : y .state ≡ 1 = omega (arith, ap (λ (y : Arc). y .target) e, m .enters) in
-          record { left = []; right = w; whole = refl; end = c; run = stay; final = rw (← here) g; rest = cut-star (ih (start a) (beside y there clean)) }
+          cut-here (rw (← here) g) (cut-star (ih (start a) (beside y there clean)))
         where
           did : DoesAll (clearing (a .registers)) (d .contents) (y .contents)
           did = rw (ap (λ (y : Arc). y .ops) e) at (m .does)
@@ -175,12 +164,11 @@ module _ (a : Automaton) (va : WellFormed a) where
           clean = Option·some-injective (y .contents) (zeros (a .registers)) (sym ((perform-iff (clearing (a .registers)) (d .contents) (y .contents)) .1 did) ∙ (perform-iff (clearing (a .registers)) (d .contents) (zeros (a .registers))) .1 would)
   inA c d d′ r (spell {y = y} {a = l} {w = w} m q) f = go (λ c′ r′. inA c′ y d′ r′ q f) (whence (m .arc) (m .listed))
     where
-      go : ((c′ : Configuration) → Beside lay a c′ y → Cut c′ w) → Whence (m .arc) → Cut c (l ∷ w)
+      go : ((c′ : Configuration) → Beside lay a c′ y → Cut a (Star (Accepts a)) c′ w) → Whence (m .arc) → Cut a (Star (Accepts a)) c (l ∷ w)
       go ih (entry e) = none-some (ap (λ (y : Arc). y .letter) e) (m .spells)
       go ih (ofA x k e) =
           let s = back lay a u va laid c d y (some l) r m x k e (omega (arith, ap (λ (y : Arc). y .source) e, m .leaves, r .at)) in
-          let t = ih (s .0) (s .2) in
-          record { left = l ∷ t .left; right = t .right; whole = ap (λ (v : List ℕ). l ∷ v) (t .whole); end = t .end; run = spell (s .1) (t .run); final = t .final; rest = t .rest }
+          cut-spell (s .1) (ih (s .0) (s .2))
       go ih (again s g e) = none-some (ap (λ (y : Arc). y .letter) e) (m .spells)
 
   starts : {w : List ℕ} (c d : Configuration) → c ≡ start u → Run (Produces u) c w d → Final u (d .state) → Star (Accepts a) w

@@ -4,7 +4,7 @@ use mathlib.Core.Logic.{_↔_, ⊎-elim}
 use Prim.Native.Nat.{_+_, _-_, _<_, suc, zero, ℕ}
 use lib.ListN.{getElem?, length, length-replicate, replicate, replicate-append-replicate}
 use mathlib.Core.Bool.{false, false≢true, true}
-use mathlib.Core.List.{List, List·Memᴰ, List·Memᴰ·append-cases, Memᴰ·append-left, Memᴰ·append-right, Memᴰ·map, Memᴰ·of-map, [], _++_, _∷_, map}
+use mathlib.Core.List.{List, List·Memᴰ, List·Memᴰ·append-cases, Memᴰ·append-left, Memᴰ·append-right, Memᴰ·map, Memᴰ·of-map, _++_, _∷_, map}
 use mathlib.Core.Option.{Option, Option·some-injective, none, some}
 use native.Mathlib.Nat.{add-zero}
 use native.Mathlib.Omega.{arith}
@@ -13,7 +13,7 @@ use Rattle.automata.specs.Joins.{Split, concatenation, emptyMove, finalS
 use Rattle.automata.specs.Performing.{holds}
 use Rattle.automata.specs.Unfolding.{readZero}
 use Rattle.automata.proofs.ListLaws.{at-back, at-front, getElem?-append, getElem?-lt, none-some}
-use Rattle.automata.proofs.Parts.{Beside, Laid, Layout, Own, back, behind, finalStates-iff, image, inFront, into, laid-behind, laid-inFront, own-start, tail-zeros, zeros}
+use Rattle.automata.proofs.Parts.{Beside, Cut, Laid, Layout, Own, back, behind, cut-here, cut-silent, cut-spell, finalStates-iff, image, inFront, into, laid-behind, laid-inFront, own-start, tail-zeros, zeros}
 use Rattle.automata.proofs.RunLaws.{carried, joined}
 
 falses : (n i : ℕ) → getElem? (replicate n false) i ≡ some true → ⊥
@@ -102,16 +102,6 @@ module _ (a b : Automaton) (va : WellFormed a) (vb : WellFormed b) where
       let q = carried (Beside (layB h) b) (λ c c′ d α r m. into (layB h) b u vb (laidB h g) c c′ d α r m (hasB h (m .arc) (m .listed))) y (startB h y refl (r .2 .holds)) (t .run) in
       record { end = q .0; run = joined (r .1) (silent over (q .1)); final = rw (q .2 .at) ((finalB (t .end .state)) .1 (t .final)) }
 
-  -- a run of a from c that spells the left part, and the right part accepted by b
-  record Cut (c : Configuration) (w : List ℕ) : Type 0 where
-    left : List ℕ
-    right : List ℕ
-    whole : w ≡ left ++ right
-    end : Configuration
-    run : Run (Produces a) c left end
-    final : Final a (end .state)
-    rest : Accepts b right
-
   -- past the crossing
   inB : (h : List ℕ) → Own (a .registers) h → (d d′ : Configuration) (w : List ℕ) → d .state ≡ states a → d .contents ≡ h ++ zeros (b .registers - 1) → Run (Produces u) d w d′ → Final u (d′ .state) → Accepts b w
   inB h o d d′ w e f r g =
@@ -126,40 +116,30 @@ module _ (a b : Automaton) (va : WellFormed a) (vb : WellFormed b) where
           go (cross s f e) = absurd (omega (arith, getElem?-lt (a .finals) s f, ap (λ (y : Arc). y .source) e, m .leaves, r .at))
           go (ofB x k e) = back (layB h) b u vb (laidB h o) c d d′ α r m x k e (omega (arith, ap (λ (y : Arc). y .source) e, m .leaves, r .at))
 
-  inA : {w : List ℕ} (c d d′ : Configuration) → Beside layA a c d → Run (Produces u) d w d′ → Final u (d′ .state) → Cut c w
+  inA : {w : List ℕ} (c d d′ : Configuration) → Beside layA a c d → Run (Produces u) d w d′ → Final u (d′ .state) → Cut a (Accepts b) c w
   inA c d d′ r stay f = absurd (not-finalA (c .state) (r .small) (rw (r .at) at f))
   inA c d d′ r (silent {y = y} {w = w} m q) f = go (λ c′ r′. inA c′ y d′ r′ q f) (whence (m .arc) (m .listed))
     where
-      go : ((c′ : Configuration) → Beside layA a c′ y → Cut c′ w) → Whence (m .arc) → Cut c w
+      go : ((c′ : Configuration) → Beside layA a c′ y → Cut a (Accepts b) c′ w) → Whence (m .arc) → Cut a (Accepts b) c w
       go ih (ofA k) =
           let s = back layA a u va laidA c d y none r m (m .arc) k refl (m .leaves ∙ r .at) in
-          let t = ih (s .0) (s .2) in
-          record { left = t .left; right = t .right; whole = t .whole; end = t .end; run = silent (s .1) (t .run); final = t .final; rest = t .rest }
+          cut-silent (s .1) (ih (s .0) (s .2))
       go ih (cross s g e) =
           let did : DoesAll readZero (d .contents) (y .contents) = rw (ap (λ (y : Arc). y .ops) e) at (m .does) in
           let here : s ≡ c .state = omega (arith, ap (λ (y : Arc). y .source) e, m .leaves, r .at) in
           let there : y .state ≡ states a = omega (arith, ap (λ (y : Arc). y .target) e, m .enters) in
-          record {
-            left = [];
-            right = w;
-            whole = refl;
-            end = c;
-            run = stay;
-            final = rw (← here) g;
-            rest = inB (c .contents) (r .good) y d′ w there (sym (did .1 .0 ∙ did .2) ∙ r .holds) q f;
-          }
+          cut-here (rw (← here) g) (inB (c .contents) (r .good) y d′ w there (sym (did .1 .0 ∙ did .2) ∙ r .holds) q f)
       go ih (ofB x k e) = absurd (omega (arith, ap (λ (y : Arc). y .source) e, m .leaves, r .at, r .small))
   inA c d d′ r (spell {y = y} {a = l} {w = w} m q) f = go (λ c′ r′. inA c′ y d′ r′ q f) (whence (m .arc) (m .listed))
     where
-      go : ((c′ : Configuration) → Beside layA a c′ y → Cut c′ w) → Whence (m .arc) → Cut c (l ∷ w)
+      go : ((c′ : Configuration) → Beside layA a c′ y → Cut a (Accepts b) c′ w) → Whence (m .arc) → Cut a (Accepts b) c (l ∷ w)
       go ih (ofA k) =
           let s = back layA a u va laidA c d y (some l) r m (m .arc) k refl (m .leaves ∙ r .at) in
-          let t = ih (s .0) (s .2) in
-          record { left = l ∷ t .left; right = t .right; whole = ap (λ (v : List ℕ). l ∷ v) (t .whole); end = t .end; run = spell (s .1) (t .run); final = t .final; rest = t .rest }
+          cut-spell (s .1) (ih (s .0) (s .2))
       go ih (cross s g e) = none-some (ap (λ (y : Arc). y .letter) e) (m .spells)
       go ih (ofB x k e) = absurd (omega (arith, ap (λ (y : Arc). y .source) e, m .leaves, r .at, r .small))
 
-  concat-from : (w : List ℕ) → Accepts u w → Cut (start a) w
+  concat-from : (w : List ℕ) → Accepts u w → Cut a (Accepts b) (start a) w
   concat-from w t = inA (start a) (start u) (t .end) startA (t .run) (t .final)
 
   -- THE LAW of concatenation

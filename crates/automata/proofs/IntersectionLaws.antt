@@ -215,7 +215,7 @@ module _ (a b : Automaton) (va : WellFormed a) (vb : WellFormed b) where
       let ew : w′ ≡ w = cc in
       let s = moveBoth c c′ e y d l r m (rw el at m₂) in
       let t = ih y (s .0) (s .2) (rw ew at q) in
-      let run : Run (Produces u) d (l ∷ w) (t .0) = spell (s .1) (t .1) in
+      let run : Run (Produces u) d (l ∷ w) (t .0) = spell {z = t .0} (s .1) (t .1) in
       (t .0, rw h run, t .2)
 
   twoRuns : {c c′ : Configuration} {w : List ℕ} (e e′ d : Configuration) → Pairs c e d → Run (Produces a) c w c′ → Run (Produces b) e w e′ → Goes d w c′ e′

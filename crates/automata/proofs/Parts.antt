@@ -12,7 +12,7 @@ use mathlib.Core.List.{List, List·Memᴰ, List·Memᴰ·cases-cons, List·Mem�
 use mathlib.Core.Option.{Option, Option·map, Option·some-injective, bind, map-eq-some-iff, none, some}
 use native.Mathlib.Nat.{not-suc-le-zero, suc-add, suc-ne-zero}
 use native.Mathlib.Omega.{arith}
-use Rattle.automata.specs.Automaton.{Arc, Automaton, Configuration, Does, DoesAll, KeepsZero, Op, Produces, WellFormed, reads, register, start, states, writes}
+use Rattle.automata.specs.Automaton.{Arc, Automaton, Configuration, Does, DoesAll, Final, KeepsZero, Op, Produces, Run, WellFormed, reads, register, silent, spell, start, states, stay, writes}
 use Rattle.automata.specs.Joins.{finalStates, movedOp}
 use Rattle.automata.specs.Lists.{only}
 use Rattle.automata.specs.Performing.{act, perform, holds}
@@ -221,3 +221,23 @@ finalStates-iff i (false ∷ l) s = (
     go : (((j : ℕ) × (s ≡ suc i + j) × (getElem? l j ≡ some true)) → List·Memᴰ s (finalStates (suc i) l)) → (j : ℕ) → s ≡ i + j → getElem? (false ∷ l) j ≡ some true → List·Memᴰ s (finalStates (suc i) l)
     go ih zero e f = absurd (false≢true (Option·some-injective false true f))
     go ih (suc j) e f = ih (j, omega arith, f)
+
+-- ---- a run of the part from c to a final state that spells the front of the word, and what is said of the rest of it
+pub record Cut (a : Automaton) (Rest : List ℕ → Type 0) (c : Configuration) (w : List ℕ) : Type 0 where
+  pub left : List ℕ
+  pub right : List ℕ
+  pub whole : w ≡ left ++ right
+  pub end : Configuration
+  pub run : Run (Produces a) c left end
+  pub final : Final a (end .state)
+  pub rest : Rest right
+
+module _ {a : Automaton} {Rest : List ℕ → Type 0} where
+  pub cut-here : {c : Configuration} {w : List ℕ} → Final a (c .state) → Rest w → Cut a Rest c w
+  cut-here {c} {w} f r = record { left = []; right = w; whole = refl; end = c; run = stay; final = f; rest = r }
+
+  pub cut-silent : {c c′ : Configuration} {w : List ℕ} → Produces a c none c′ → Cut a Rest c′ w → Cut a Rest c w
+  cut-silent m t = record { left = t .left; right = t .right; whole = t .whole; end = t .end; run = silent m (t .run); final = t .final; rest = t .rest }
+
+  pub cut-spell : {c c′ : Configuration} {l : ℕ} {w : List ℕ} → Produces a c (some l) c′ → Cut a Rest c′ w → Cut a Rest c (l ∷ w)
+  cut-spell {l = l} m t = record { left = l ∷ t .left; right = t .right; whole = ap (λ (v : List ℕ). l ∷ v) (t .whole); end = t .end; run = spell m (t .run); final = t .final; rest = t .rest }
