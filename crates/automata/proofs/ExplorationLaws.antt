@@ -7,7 +7,7 @@ use lib.ListN.{getElem?, length, length-append}
 use mathlib.Core.Bool.{Bool, false, true}
 use mathlib.Core.List.{List, List·Memᴰ, List·Memᴰ·append-cases, List·Memᴰ·cases-cons, List·Memᴰ·eq-of-singleton, List·Memᴰ·head, List·Memᴰ·not-nil, List·Memᴰ·tail, Memᴰ·append-left, Memᴰ·append-right, [], _++_, _∷_}
 use mathlib.Core.Option.{Option, Option·some-injective, none, some}
-use native.Mathlib.Decide.{decLe, decLt}
+use native.Mathlib.Decide.{decLt}
 use native.Mathlib.Nat.{add-suc, add-zero, le-of-suc-le-suc, not-suc-le-zero}
 use native.Mathlib.Omega.{arith}
 use Rattle.automata.specs.Automaton.{start}
@@ -214,16 +214,6 @@ module _ {X : Type 0} (same : X → X → Bool) (next : X → List X) (start : L
       pub known-complete : (n : ℕ) {x : X} → length (at n) ≤ n → Reach next start x → List·Memᴰ x (at n)
       known-complete n h (first m) = start-mem n m
       known-complete n {x} h (later r m) = has-mem x (at n) (known-closed n h (known-complete n h r) m)
-
-      -- THE LAW. After L steps of the walk the list either holds just what can be reached, or more than L that can be reached
-      pub explored : (L : ℕ) → Distinct same start
-          → Distinct same (at L) × ((x : X) → List·Memᴰ x (at L) → Reach next start x)
-          × (((length (at L) ≤ L) × ((x : X) → Reach next start x → List·Memᴰ x (at L))) ⊎ (L < length (at L)))
-      explored L d = (known-distinct d L, λ x. known-sound L, go (decLe (length (at L)) L))
-        where
-          go : Dec (length (at L) ≤ L) → ((length (at L) ≤ L) × ((x : X) → Reach next start x → List·Memᴰ x (at L))) ⊎ (L < length (at L))
-          go (yes h) = inl (h, λ x r. known-complete L h r)
-          go (no h) = inr (omega arith)
 
 -- ---- the walk counts what can be reached, up to its limit
 module _ {X : Type 0} (same : X → X → Bool) (eq : (x y : X) → T (same x y) ↔ (x ≡ y)) (next : X → List X) (start : List X) (d : Distinct same start) where

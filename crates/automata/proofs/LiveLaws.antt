@@ -26,9 +26,6 @@ in-table (suc k) f zero = (λ t. (suc-le-suc zero-le, t), λ p. p .1)
 in-table (suc k) f (suc j) = (λ t. let p = (in-table k (λ i. f (suc i)) j) .0 t in (suc-le-suc (p .0), p .1), λ p. (in-table k (λ i. f (suc i)) j) .1 (le-of-suc-le-suc (p .0), p .1))
 
 -- ---- counting
-Below : List Bool → List Bool → Type 0
-Below S R = (j : ℕ) → T (in? S j) → T (in? R j)
-
 pub count-le : (S : List Bool) → count S ≤ length S
 unfolding count
 count-le [] = zero-le
