@@ -188,6 +188,14 @@ pub each-snoc : {A : Type 0} (P : A → Type 0) (l : List A) (x : A) → Each P 
 each-snoc P [] x q p = (p, tt)
 each-snoc P (y ∷ l) x q p = (q .0, each-snoc P l x (q .1) p)
 
+pub each-mem : {A : Type 0} (P : A → Type 0) {l : List A} {x : A} → Each P l → List·Memᴰ x l → P x
+each-mem P h (List·Memᴰ·head e) = subst P (sym e) (h .0)
+each-mem P h (List·Memᴰ·tail m) = each-mem P (h .1) m
+
+pub mem-each : {A : Type 0} {P : A → Type 0} (l : List A) → ((x : A) → List·Memᴰ x l → P x) → Each P l
+mem-each [] h = tt
+mem-each (x ∷ l) h = (h x (List·Memᴰ·head refl), mem-each l (λ y m. h y (List·Memᴰ·tail m)))
+
 pub each-at : {A : Type 0} (P : A → Type 0) (l : List A) (i : ℕ) {x : A} → getElem? l i ≡ some x → Each P l → P x
 each-at P [] i e q = none-some refl e
 each-at P (y ∷ l) zero {x} e q = subst P (Option·some-injective y x e) (q .0)

@@ -1,0 +1,42 @@
+-- Examples: document 01's file T, and spoiled copies of it for each number from 1 to 9, computed.
+use mathlib.Core.Path.{_≡_, refl}
+use mathlib.Core.List.{List, [], _∷_, _++_, map}
+use Prim.Native.Nat.{ℕ}
+use lib.ListN.{take, set}
+use Rattle.automata.specs.Examples.{automatonT}
+use Rattle.format.specs.declared.Reading.the-variants.{Valid, Refused}
+use Rattle.format.specs.Reading.{readingOf}
+use Rattle.format.specs.Decoding.{automatonOf}
+use Rattle.format.specs.Encoding.{bytesOf}
+use Rattle.format.specs.Examples.{fileT}
+
+pub valid-T : readingOf fileT ≡ Valid (record { letters = 3; states = 3; registers = 2; symbols = 3; arcs = 5 })
+unfolding readingOf
+valid-T = refl
+
+pub decoded-T : automatonOf fileT ≡ automatonT
+unfolding automatonOf automatonT
+decoded-T = refl
+
+pub written-T : bytesOf automatonT ≡ fileT
+unfolding bytesOf automatonT
+written-T = refl
+
+-- T cut short, with a byte changed, or with one byte more
+abbrev spoiled : List (List ℕ)
+spoiled =
+    [] ∷ take 11 fileT ∷ take 14 fileT ∷ take 17 fileT ∷ take 21 fileT ∷ take 47 fileT
+    ∷ set fileT 2 0x43
+    ∷ set fileT 4 1
+    ∷ set fileT 5 65 ∷ set fileT 6 0 ∷ set fileT 7 2 ∷ set fileT 8 0 ∷ set fileT 8 9 ∷ set fileT 9 0 ∷ set fileT 9 17 ∷ set fileT 11 9
+    ∷ set fileT 13 0x63
+    ∷ set fileT 15 2
+    ∷ set fileT 18 3 ∷ set fileT 19 3 ∷ set fileT 20 3 ∷ set fileT 21 0 ∷ set fileT 21 9
+    ∷ set fileT 22 0x21 ∷ set fileT 22 0x12 ∷ set fileT 23 3 ∷ set fileT 22 0x10 ∷ set fileT 35 1
+    ∷ (fileT ++ (0 ∷ []))
+    ∷ []
+
+pub refused : map readingOf spoiled
+    ≡ map Refused (1 ∷ 1 ∷ 1 ∷ 1 ∷ 1 ∷ 1 ∷ 2 ∷ 3 ∷ 4 ∷ 4 ∷ 4 ∷ 4 ∷ 4 ∷ 4 ∷ 4 ∷ 4 ∷ 5 ∷ 6 ∷ 7 ∷ 7 ∷ 7 ∷ 7 ∷ 7 ∷ 8 ∷ 8 ∷ 8 ∷ 8 ∷ 8 ∷ 9 ∷ [])
+unfolding readingOf
+refused = refl

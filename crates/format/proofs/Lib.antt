@@ -1,0 +1,12 @@
+pub mod Tests
+pub mod Steps
+pub mod Seen
+pub mod Fitting
+pub mod ArcLaws
+pub mod ValidLaws
+pub mod EncodingLaws
+pub mod CanonicalLaws
+pub mod LetterLaws
+pub mod ByteLaws
+pub mod Examples
+pub mod Promise

@@ -1,0 +1,56 @@
+-- Promise: what a caller may rely on, of any list of bytes s that `read` is handed and of any automaton x.
+-- `read` answers `readingOf` of the file (specs/Reading.antt): its contract is that equation.
+use mathlib.Core.Path.{_≡_, refl, sym, ap, _∙_, subst}
+use mathlib.Core.Logic.{_↔_, _≢_}
+use mathlib.Core.Bool.{true, false}
+use mathlib.Core.List.{List, []}
+use Prim.Native.Nat.{ℕ, _≤_}
+use native.Mathlib.Omega.{arith}
+use lib.ListN.{length}
+use Rattle.automata.specs.Automaton.{Automaton, WellFormed}
+use Rattle.format.specs.declared.Counts.{Counts}
+use Rattle.format.specs.declared.Reading.{Reading}
+use Rattle.format.specs.declared.Reading.the-variants.{Valid, Refused}
+use Rattle.format.specs.Reading.{countsOf, fileTests, readingOf}
+use Rattle.format.specs.Decoding.{automatonOf}
+use Rattle.format.specs.Encoding.{sizes, bytesOf}
+use Rattle.format.specs.Limits.{Fits, Bytes}
+use Rattle.format.proofs.Tests.{FirstFails, refused-first, first-refused}
+use Rattle.format.proofs.ValidLaws.{valid-sizes, valid-fits, valid-wellFormed, valid-longest}
+use Rattle.format.proofs.EncodingLaws.{bytes-valid, bytes-back}
+use Rattle.format.proofs.CanonicalLaws.{valid-bytes}
+
+-- A file is valid, with the counts c, exactly if it is the bytes of an automaton within the limits that has these counts.
+pub valid-exactly : (s : List ℕ) (c : Counts) → Bytes s → (readingOf s ≡ Valid c) ↔ ((x : Automaton) × Fits x × (sizes x ≡ c) × (bytesOf x ≡ s))
+valid-exactly s c b = (
+  λ e. (automatonOf s, valid-fits s c e, valid-sizes s c e, valid-bytes s b c e),
+  λ q. subst (λ t. readingOf t ≡ Valid c) (q .3) (bytes-valid (q .0) (q .1) ∙ ap Valid (q .2)),
+)
+
+-- A file is refused, with some number, exactly if it is the bytes of no automaton within the limits.
+pub refused-exactly : (s : List ℕ) → Bytes s → ((n : ℕ) × (readingOf s ≡ Refused n)) ↔ ((x : Automaton) → Fits x → bytesOf x ≢ s)
+refused-exactly s b = (λ q x h e. never (q .1) (bytes-valid x h) e, λ none. either (readingOf s) refl none)
+  where
+    never : {n : ℕ} {c : Counts} {t : List ℕ} → readingOf s ≡ Refused n → readingOf t ≡ Valid c → t ≡ s → ⊥
+    never p q e = let z : _≡_ {A = ℕ} 0 1 = cc in omega arith
+
+    either : (r : Reading) → readingOf s ≡ r → ((x : Automaton) → Fits x → bytesOf x ≢ s) → (n : ℕ) × (readingOf s ≡ Refused n)
+    either (Refused n) e none = (n, e)
+    either (Valid c) e none = absurd (none (automatonOf s) (valid-fits s c e) (valid-bytes s b c e))
+
+-- The number of a refusal is that of the first test that fails: those before it hold.
+pub number-exactly : (s : List ℕ) (n : ℕ) → (readingOf s ≡ Refused n) ↔ FirstFails n (fileTests s)
+unfolding readingOf
+number-exactly s n = (refused-first (fileTests s) (countsOf s), first-refused (fileTests s) (countsOf s))
+
+-- The automaton of a valid file is well-formed, and has the counts that reading answers.
+pub valid-automaton : (s : List ℕ) (c : Counts) → readingOf s ≡ Valid c → WellFormed (automatonOf s) × (sizes (automatonOf s) ≡ c)
+valid-automaton s c e = (valid-wellFormed s c e, valid-sizes s c e)
+
+-- What is written of an automaton within the limits is a valid file with its counts, from which the same automaton is read.
+pub round-trip : (x : Automaton) → Fits x → (readingOf (bytesOf x) ≡ Valid (sizes x)) × (automatonOf (bytesOf x) ≡ x)
+round-trip x h = (bytes-valid x h, bytes-back x h)
+
+-- Automata within the limits that have the same bytes are the same.
+pub bytes-injective : (x y : Automaton) → Fits x → Fits y → bytesOf x ≡ bytesOf y → x ≡ y
+bytes-injective x y h k e = sym (bytes-back x h) ∙ ap automatonOf e ∙ bytes-back y k

@@ -1,0 +1,7 @@
+pub mod Reading
+pub mod Letters
+pub mod Decoding
+pub mod Encoding
+pub mod Limits
+pub mod Placed
+pub mod Examples
