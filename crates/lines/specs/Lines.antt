@@ -1,0 +1,24 @@
+-- Lines: the line that tells an answer, as the program `cases` prints it.
+-- Each is a word for the kind of answer, then document 01's values of it, with one space between.
+use Prim.Native.Nat.{ℕ}
+use mathlib.Core.List.{List, [], _∷_}
+use Rattle.text.specs.Digits.{decimalOf}
+use Rattle.text.specs.Line.{ascii, line}
+use Rattle.format.specs.declared.Counts.{Counts}
+use Rattle.format.specs.declared.Reading.{Reading}
+use Rattle.format.specs.declared.Reading.the-variants.{Valid, Refused}
+
+-- a refusal: its number, and the automaton at fault
+abbrev pub refusedLine : ℕ → ℕ → List ℕ
+refusedLine number automaton = line (ascii "refused" ∷ decimalOf number ∷ decimalOf automaton ∷ [])
+
+-- a valid file: the counts of its header, in the order of the file
+abbrev pub validLine : Counts → List ℕ
+validLine c =
+    line (ascii "valid" ∷ decimalOf (c .letters) ∷ decimalOf (c .states) ∷ decimalOf (c .registers)
+    ∷ decimalOf (c .symbols) ∷ decimalOf (c .arcs) ∷ [])
+
+-- what reading a file answers; the one file handed in is automaton 1
+abbrev pub readingLine : Reading → List ℕ
+readingLine (Valid c) = validLine c
+readingLine (Refused n) = refusedLine n 1

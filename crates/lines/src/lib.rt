@@ -1,0 +1,39 @@
+// lines: the line that tells an answer, written into bytes that the caller lends.
+// Each function answers how many bytes the line takes, its newline included; what has no room is cut.
+use format::Counts;
+use format::Reading;
+ghost use Rattle.text.specs.Writing.{Writes};
+ghost use Rattle.lines.specs.Lines.{refusedLine, validLine, readingLine};
+
+// A refusal: its number, and the automaton at fault.
+pub fn refused_line(number: u8, automaton: u8, out: &mut [u8]) -> usize
+    ensures { λ r. ⌜ Writes (refusedLine number automaton) 0 r (now (out .entry)) (now (out .exit)) ⌝ }
+{
+    let mut at = text::put(b"refused", out, 0);
+    at = text::decimal_field(number as u64, out, at);
+    at = text::decimal_field(automaton as u64, out, at);
+    text::put_byte(b'\n', out, at)
+}
+
+// A valid file: the counts of its header.
+fn valid_line(c: Counts, out: &mut [u8]) -> usize
+    ensures { λ r. ⌜ Writes (validLine c) 0 r (now (out .entry)) (now (out .exit)) ⌝ }
+{
+    let mut at = text::put(b"valid", out, 0);
+    at = text::decimal_field(c.letters as u64, out, at);
+    at = text::decimal_field(c.states as u64, out, at);
+    at = text::decimal_field(c.registers as u64, out, at);
+    at = text::decimal_field(c.symbols as u64, out, at);
+    at = text::decimal_field(c.arcs as u64, out, at);
+    text::put_byte(b'\n', out, at)
+}
+
+// What reading a file answers.
+pub fn reading_line(r: Reading, out: &mut [u8]) -> usize
+    ensures { λ n. ⌜ Writes (readingLine r) 0 n (now (out .entry)) (now (out .exit)) ⌝ }
+{
+    match r {
+        Reading::Valid(c) => valid_line(c, out),
+        Reading::Refused(n) => refused_line(n, 1, out),
+    }
+}
