@@ -196,6 +196,14 @@ pub mem-each : {A : Type 0} {P : A → Type 0} (l : List A) → ((x : A) → Lis
 mem-each [] h = tt
 mem-each (x ∷ l) h = (h x (List·Memᴰ·head refl), mem-each l (λ y m. h y (List·Memᴰ·tail m)))
 
+pub each-split : {A : Type 0} (P : A → Type 0) (l r : List A) → Each P (l ++ r) → Each P l × Each P r
+each-split P [] r h = (tt, h)
+each-split P (x ∷ l) r h = let s = each-split P l r (h .1) in ((h .0, s .0), s .1)
+
+pub each-join : {A : Type 0} (P : A → Type 0) (l r : List A) → Each P l → Each P r → Each P (l ++ r)
+each-join P [] r h k = k
+each-join P (x ∷ l) r h k = (h .0, each-join P l r (h .1) k)
+
 pub each-at : {A : Type 0} (P : A → Type 0) (l : List A) (i : ℕ) {x : A} → getElem? l i ≡ some x → Each P l → P x
 each-at P [] i e q = none-some refl e
 each-at P (y ∷ l) zero {x} e q = subst P (Option·some-injective y x e) (q .0)

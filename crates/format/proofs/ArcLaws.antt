@@ -2,20 +2,21 @@
 use mathlib.Core.Path.{_≡_, refl, ap}
 use mathlib.Core.Logic.{_≢_}
 use mathlib.Core.Bool.{Bool, true, false, not, _&&_, _||_}
-use mathlib.Core.List.{List, [], _∷_, _++_}
+use mathlib.Core.List.{List, [], _∷_}
 use mathlib.Core.Option.{some}
-use Prim.Native.Nat.{ℕ, zero, suc, _+_, _*_, _/_, _%_, _≤_, _<_}
+use Prim.Native.Nat.{ℕ, zero, suc, _/_, _%_, _≤_, _<_}
 use native.Mathlib.Omega.{arith}
 use borrow.Author.Tests.{leb-true, ltb-true, eqb-true, eqb-false, eq-eqb}
 use lib.Dec.{leb, ltb, eqb}
 use lib.ListN.{length, getD, drop, length-drop}
-use Rattle.automata.specs.Automaton.{Op, reads, writes, KeepsZero}
+use Rattle.automata.specs.Automaton.{reads, writes, KeepsZero}
 use Rattle.format.specs.declared.Counts.{Counts}
-use Rattle.format.specs.Reading.{wellFields, wellOp, wellOps, arcSize, arcTests, arcsTests}
+use Rattle.format.specs.Reading.{wellOp, wellOps, arcSize, arcTests, arcsTests}
 use Rattle.format.specs.Decoding.{opOf, opsOf, letterOf, arcOf, arcsOf}
 use Rattle.format.specs.Placed.{whole, OkOps, OkArcs}
 use Rattle.automata.specs.Lists.{Each}
-use Rattle.format.proofs.Tests.{and-both, all-hold, Hold, hold-split}
+use Rattle.automata.proofs.ListLaws.{each-split}
+use Rattle.format.proofs.Tests.{and-both, all-hold, Holds, Hold}
 use Rattle.format.proofs.Seen.{ArcSeen, arc-seen}
 use Rattle.format.proofs.Fitting.{OpFits, ArcFits}
 
@@ -107,7 +108,7 @@ unfolding arcsTests arcsOf OkArcs whole
 arcs-seen c zero l g h = let f : length l ≤ 0 = leb-true _ _ (h .0) in record { fit = tt; ok = tt; all = omega arith }
 arcs-seen c (suc m) l g h =
     let rest = drop (arcSize l) l in
-    let s = hold-split (arcTests c l) (arcsTests m c rest) h in
+    let s = each-split Holds (arcTests c l) (arcsTests m c rest) h in
     let a = arc-seen c l (s .0) in
     let r = arcs-seen c m rest g (s .1) in
     let f = arc-fits c l g a in

@@ -5,17 +5,20 @@ use mathlib.Core.List.{List, [], _∷_, _++_, map}
 use mathlib.Core.Option.{Option, none, some}
 use Prim.Native.Nat.{ℕ, zero, suc, _<_}
 use native.Mathlib.Omega.{arith}
-use lib.ListN.{getD}
-use Rattle.automata.specs.Automaton.{Op, reads, writes, Arc, Automaton}
+use Rattle.automata.specs.Automaton.{Op, Arc, Automaton}
 use Rattle.format.specs.declared.Counts.{Counts}
-use Rattle.format.specs.Encoding.{sizes, headerBytes, flagByte, kind, opsBytes, letterByte, arcBytes, arcsBytes, bytesOf}
+use Rattle.format.specs.Encoding.{sizes, headerBytes, flagByte, opsBytes, letterByte, arcBytes, arcsBytes, bytesOf}
 use Rattle.format.specs.Limits.{Ranges, Fits, Bytes}
 use Rattle.automata.specs.Lists.{Each}
+use Rattle.automata.proofs.ListLaws.{each-join}
 use Rattle.format.proofs.Fitting.{OpFits, ArcFits, arcs-fit}
 use Rattle.format.proofs.EncodingLaws.{few-kinds}
 
+abbrev Byte : ℕ → Type 0
+Byte b = b < 256
+
 abbrev AllBytes : List ℕ → Type 0
-AllBytes l = Each (λ b. b < 256) l
+AllBytes l = Each Byte l
 
 each-bytes : (l : List ℕ) → AllBytes l → Bytes l
 each-bytes [] h i = omega arith
@@ -25,10 +28,6 @@ each-bytes (x ∷ l) h (suc i) = each-bytes l (h .1) i
 bytes-each : (l : List ℕ) → Bytes l → AllBytes l
 bytes-each [] h = tt
 bytes-each (x ∷ l) h = (h 0, bytes-each l (λ i. h (suc i)))
-
-append-bytes : (l r : List ℕ) → AllBytes l → AllBytes r → AllBytes (l ++ r)
-append-bytes [] r h k = k
-append-bytes (x ∷ l) r h k = (h .0, append-bytes l r (h .1) k)
 
 module _ (c : Counts) (r : Ranges c) where
   header-bytes : AllBytes (headerBytes c)
@@ -51,7 +50,7 @@ module _ (c : Counts) (r : Ranges c) where
   arcs-bytes [] h = tt
   arcs-bytes (x ∷ xs) h =
       let a = h .0 in
-      append-bytes (arcBytes x) (arcsBytes xs)
+      each-join Byte (arcBytes x) (arcsBytes xs)
       (omega (arith, a .source, r .states), (letter-byte (x .letter) (a .lettered), (omega (arith, a .target, r .states), (omega (arith, a .few-ops), ops-bytes (x .ops) (a .ops)))))
       (arcs-bytes xs (h .1))
 
@@ -66,6 +65,6 @@ bytes-bytes x h a =
     let flags = map flagByte (x .finals) in
     let arcs = arcsBytes (x .arcs) in
     each-bytes (bytesOf x)
-    (append-bytes (headerBytes (sizes x)) (x .alphabet ++ (flags ++ arcs)) (header-bytes (sizes x) (h .ranges))
-    (append-bytes (x .alphabet) (flags ++ arcs) (bytes-each (x .alphabet) a)
-    (append-bytes flags arcs (flags-bytes (x .finals)) (arcs-bytes (sizes x) (h .ranges) (x .arcs) (arcs-fit x h)))))
+    (each-join Byte (headerBytes (sizes x)) (x .alphabet ++ (flags ++ arcs)) (header-bytes (sizes x) (h .ranges))
+    (each-join Byte (x .alphabet) (flags ++ arcs) (bytes-each (x .alphabet) a)
+    (each-join Byte flags arcs (flags-bytes (x .finals)) (arcs-bytes (sizes x) (h .ranges) (x .arcs) (arcs-fit x h)))))

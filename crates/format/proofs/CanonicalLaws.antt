@@ -1,6 +1,6 @@
 -- CanonicalLaws: a valid file is the bytes of its automaton, so no two valid files hold the same one.
 use mathlib.Core.Path.{_≡_, refl, sym, ap, _∙_, subst}
-use mathlib.Core.Bool.{Bool, true, false, _&&_}
+use mathlib.Core.Bool.{Bool, true, false}
 use mathlib.Core.List.{List, [], _∷_, _++_, map}
 use Prim.Native.Nat.{ℕ, zero, suc, _+_, _*_, _/_, _%_, _≤_}
 use native.Mathlib.Omega.{arith}
@@ -14,10 +14,11 @@ use Rattle.format.specs.Reading.{two, countsOf, letterBytes, flagBytes, 
 use Rattle.format.specs.Decoding.{opOf, opsOf, letterOf, arcOf, arcsOf, isFinal, decoded, automatonOf}
 use Rattle.format.specs.Encoding.{headerBytes, flagByte, opBytes, opsBytes, letterByte, arcBytes, arcsBytes, bytesOf}
 use Rattle.format.specs.Limits.{Bytes}
-use Rattle.format.proofs.Tests.{and-both, all-hold, Hold, hold-split}
+use Rattle.automata.proofs.ListLaws.{each-split}
+use Rattle.format.proofs.Tests.{and-both, all-hold, Holds, Hold}
 use Rattle.format.proofs.Seen.{HeaderSeen, ArcSeen, arc-seen}
 use Rattle.format.proofs.ArcLaws.{op-kind, ops-count}
-use Rattle.format.proofs.ValidLaws.{FileSeen, file-seen, decoded-sizes, valid-decoded}
+use Rattle.format.proofs.ValidLaws.{FileSeen, file-seen, decoded-sizes}
 
 -- ---- an operation
 op-same : (c : Counts) (x y : ℕ) → wellOp c x y ≡ true → opBytes (opOf x y) ≡ x ∷ y ∷ []
@@ -70,7 +71,7 @@ arcs-same c zero l h = nothing l (leb-true _ _ (h .0))
     nothing (x ∷ l) h = absurd (omega arith)
 arcs-same c (suc m) l h =
     let rest = drop (arcSize l) l in
-    let q = hold-split (arcTests c l) (arcsTests m c rest) h in
+    let q = each-split Holds (arcTests c l) (arcsTests m c rest) h in
     ap (λ t. arcBytes (arcOf l) ++ t) (arcs-same c m rest (q .1)) ∙ arc-same c l (arc-seen c l (q .0))
 
 -- ---- the final flags

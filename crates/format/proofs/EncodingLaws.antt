@@ -1,26 +1,27 @@
 -- EncodingLaws: the bytes of an automaton within the limits are a valid file, from which the same automaton is read.
 use mathlib.Core.Path.{_≡_, refl, sym, ap, _∙_, subst}
 use mathlib.Core.Bool.{Bool, true, false, not, cond, _&&_, _||_, or-true}
-use mathlib.Core.List.{List, [], _∷_, _++_, map, append-assoc}
+use mathlib.Core.List.{List, [], _∷_, _++_, map}
 use mathlib.Core.Option.{Option, none, some}
 use Prim.Native.Nat.{ℕ, zero, suc, _+_, _*_, _/_, _%_, _≤_, _<_}
 use native.Mathlib.Omega.{arith}
 use borrow.Author.Tests.{le-leb, lt-ltb, eq-eqb, ne-eqb}
 use lib.Dec.{eqb, ltb}
-use lib.ListN.{length, getD, drop, take, length-append, length-map}
+use lib.ListN.{length, drop, take, length-append, length-map}
 use lib.Seq.{drop-drop, take-at, drop-at}
 use Rattle.automata.specs.Automaton.{Op, reads, writes, Arc, Automaton, register, symbol, KeepsZero}
 use Rattle.format.specs.declared.Counts.{Counts}
 use Rattle.format.specs.declared.Reading.the-variants.{Valid}
 use Rattle.format.specs.Reading.{countsOf, letterBytes, ascending, flagBytes, firstArc, flags, wellFields, wellOp, wellOps, arcSize, arcTests, arcsTests, readingOf}
 use Rattle.format.specs.Decoding.{opOf, opsOf, letterOf, arcOf, arcsOf, isFinal, decoded, automatonOf}
-use Rattle.format.specs.Encoding.{sizes, headerBytes, flagByte, kind, opBytes, opsBytes, letterByte, arcBytes, arcsBytes, bytesOf}
+use Rattle.format.specs.Encoding.{sizes, flagByte, kind, opsBytes, letterByte, arcBytes, arcsBytes, bytesOf}
 use Rattle.format.specs.Limits.{Ranges, Fits}
 use Rattle.automata.specs.Lists.{Each}
-use Rattle.format.proofs.Tests.{Hold, hold-join}
+use Rattle.automata.proofs.ListLaws.{each-join}
+use Rattle.format.proofs.Tests.{Holds, Hold}
 use Rattle.format.proofs.Seen.{HeaderSeen}
 use Rattle.format.proofs.Fitting.{OpFits, ArcFits, arcs-fit}
-use Rattle.format.proofs.ValidLaws.{FileSeen, seen-file}
+use Rattle.format.proofs.ValidLaws.{seen-file}
 
 -- ---- an operation
 -- the two halves of its first byte
@@ -104,7 +105,7 @@ module _ (c : Counts) (r : Ranges c) where
   unfolding arcsTests arcsBytes
   arcs-well [] h = (refl, tt)
   arcs-well (x ∷ xs) h =
-      hold-join (arcTests c (arcBytes x ++ arcsBytes xs)) (arcsTests (length xs) c (drop (4 + 2 * length (x .ops)) (arcBytes x ++ arcsBytes xs)))
+      each-join Holds (arcTests c (arcBytes x ++ arcsBytes xs)) (arcsTests (length xs) c (drop (4 + 2 * length (x .ops)) (arcBytes x ++ arcsBytes xs)))
       (arc-well x (arcsBytes xs) (h .0)) (rw (after-arc x (arcsBytes xs)) (arcs-well xs (h .1)))
 
   arcs-back : (xs : List Arc) → Each (ArcFits c) xs → arcsOf (length xs) (arcsBytes xs) ≡ xs

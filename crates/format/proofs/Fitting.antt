@@ -4,14 +4,14 @@ use mathlib.Core.Bool.{true}
 use mathlib.Core.Option.{some}
 use Prim.Native.Nat.{ℕ, _≤_, _<_}
 use lib.ListN.{length}
-use Rattle.automata.specs.Automaton.{Op, Arc, Automaton, register, symbol, KeepsZero, WellFormed}
+use Rattle.automata.specs.Automaton.{Op, Arc, Automaton, register, symbol, KeepsZero}
 use Rattle.format.specs.declared.Counts.{Counts}
 use Rattle.format.specs.Reading.{ascending}
 use Rattle.format.specs.Encoding.{sizes}
 use Rattle.format.specs.Limits.{Ranges, Fits}
+use Rattle.format.proofs.LetterLaws.{ascending-apart}
 use Rattle.automata.specs.Lists.{Each}
 use Rattle.automata.proofs.ListLaws.{each-mem, mem-each}
-use Rattle.format.proofs.LetterLaws.{ascending-apart}
 
 pub record OpFits (c : Counts) (o : Op) : Type 0 where
   pub inside : register o < c .registers

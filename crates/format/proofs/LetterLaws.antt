@@ -1,18 +1,17 @@
 -- LetterLaws: the number of a byte is the place where it stands among the letters; letters that ascend stand in one place only.
-use mathlib.Core.Path.{_≡_, refl, sym, ap, _∙_}
+use mathlib.Core.Path.{_≡_, refl, ap, _∙_}
 use mathlib.Core.Logic.{_≢_}
-use mathlib.Core.Bool.{Bool, true, false, cond, _&&_}
+use mathlib.Core.Bool.{Bool, true, false, cond}
 use mathlib.Core.List.{List, [], _∷_}
-use mathlib.Core.Option.{Option, none, some}
+use mathlib.Core.Option.{some}
 use Prim.Native.Nat.{ℕ, zero, suc, _+_, _<_}
 use native.Mathlib.Omega.{arith}
 use borrow.Author.Tests.{eqb-true, eqb-false, ne-eqb, eq-eqb, ltb-true}
 use lib.Dec.{eqb, ltb}
 use lib.ListN.{getElem?}
+use Rattle.format.specs.declared.letters.Letter.the-variants.{At, None}
 use Rattle.automata.specs.Counting.{Apart}
 use Rattle.automata.proofs.ListLaws.{mem-at}
-use Rattle.format.specs.declared.letters.Letter.{Letter}
-use Rattle.format.specs.declared.letters.Letter.the-variants.{At, None}
 use Rattle.format.specs.Reading.{ascending}
 use Rattle.format.specs.Letters.{letterFrom, letterNumber}
 use Rattle.format.proofs.Tests.{and-both}

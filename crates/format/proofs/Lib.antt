@@ -1,4 +1,5 @@
 pub mod Tests
+pub mod LetterLaws
 pub mod Steps
 pub mod Seen
 pub mod Fitting
@@ -6,7 +7,7 @@ pub mod ArcLaws
 pub mod ValidLaws
 pub mod EncodingLaws
 pub mod CanonicalLaws
-pub mod LetterLaws
+pub mod RefusalLaws
 pub mod ByteLaws
 pub mod Examples
 pub mod Promise

@@ -2,11 +2,11 @@
 -- `read` answers `readingOf` of the file (specs/Reading.antt): its contract is that equation.
 use mathlib.Core.Path.{_≡_, refl, sym, ap, _∙_, subst}
 use mathlib.Core.Logic.{_↔_, _≢_}
-use mathlib.Core.Bool.{true, false}
-use mathlib.Core.List.{List, []}
+use mathlib.Core.List.{List}
 use Prim.Native.Nat.{ℕ, _≤_}
 use native.Mathlib.Omega.{arith}
-use lib.ListN.{length}
+use borrow.Author.Tests.{leb-true}
+use lib.Dec.{leb}
 use Rattle.automata.specs.Automaton.{Automaton, WellFormed}
 use Rattle.format.specs.declared.Counts.{Counts}
 use Rattle.format.specs.declared.Reading.{Reading}
@@ -15,8 +15,9 @@ use Rattle.format.specs.Reading.{countsOf, fileTests, readingOf}
 use Rattle.format.specs.Decoding.{automatonOf}
 use Rattle.format.specs.Encoding.{sizes, bytesOf}
 use Rattle.format.specs.Limits.{Fits, Bytes}
-use Rattle.format.proofs.Tests.{FirstFails, refused-first, first-refused}
-use Rattle.format.proofs.ValidLaws.{valid-sizes, valid-fits, valid-wellFormed, valid-longest}
+use Rattle.format.proofs.Tests.{and-both}
+use Rattle.format.proofs.RefusalLaws.{FirstFails, refused-first, first-refused, refused-number, Known, tests-known}
+use Rattle.format.proofs.ValidLaws.{valid-sizes, valid-fits, valid-wellFormed}
 use Rattle.format.proofs.EncodingLaws.{bytes-valid, bytes-back}
 use Rattle.format.proofs.CanonicalLaws.{valid-bytes}
 
@@ -38,7 +39,14 @@ refused-exactly s b = (λ q x h e. never (q .1) (bytes-valid x h) e, λ none. ei
     either (Refused n) e none = (n, e)
     either (Valid c) e none = absurd (none (automatonOf s) (valid-fits s c e) (valid-bytes s b c e))
 
--- The number of a refusal is that of the first test that fails: those before it hold.
+-- The number of a refusal is one of 1 to 9.
+pub number-range : (s : List ℕ) (n : ℕ) → readingOf s ≡ Refused n → (1 ≤ n) × (n ≤ 9)
+unfolding readingOf
+number-range s n e =
+    let b = and-both (leb 1 n) (leb n 9) (refused-number Known (fileTests s) (countsOf s) (tests-known s) e) in
+    (leb-true _ _ (b .0), leb-true _ _ (b .1))
+
+-- A file is refused with n exactly if n is the number of the first of its tests that fails: those before it hold.
 pub number-exactly : (s : List ℕ) (n : ℕ) → (readingOf s ≡ Refused n) ↔ FirstFails n (fileTests s)
 unfolding readingOf
 number-exactly s n = (refused-first (fileTests s) (countsOf s), first-refused (fileTests s) (countsOf s))

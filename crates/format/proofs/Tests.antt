@@ -1,6 +1,6 @@
 -- Tests: what tests that hold say, joined by &&, or one after the other with their numbers.
-use mathlib.Core.Path.{_≡_, refl, sym, ap, _∙_}
-use mathlib.Core.Bool.{Bool, true, false, not, cond, _&&_}
+use mathlib.Core.Path.{_≡_, refl, sym, _∙_}
+use mathlib.Core.Bool.{Bool, true, false, not, _&&_}
 use mathlib.Core.List.{List, [], _∷_, _++_}
 use Prim.Native.Nat.{ℕ}
 use native.Mathlib.Omega.{arith}
@@ -36,8 +36,11 @@ all-hold t (u ∷ l) e =
     (b .0, (b .1, h .1))
 
 -- ---- tests one after the other
+abbrev pub Holds : Bool × ℕ → Type 0
+Holds t = t .0 ≡ true
+
 abbrev pub Hold : List (Bool × ℕ) → Type 0
-Hold l = Each (λ t. t .0 ≡ true) l
+Hold l = Each Holds l
 
 -- a valid file's tests all hold ..
 pub valid-hold : (l : List (Bool × ℕ)) (c : Counts) {d : Counts} → firstFault l c ≡ Valid d → Hold l × (c ≡ d)
@@ -52,41 +55,7 @@ unfolding firstFault
 hold-valid [] c h = refl
 hold-valid (t ∷ l) c h = rw (h .0) (hold-valid l c (h .1))
 
--- a refused file's tests are some that hold, one that fails with the number of the refusal, and others ..
-pub record FirstFails (n : ℕ) (l : List (Bool × ℕ)) : Type 0 where
-  pub before : List (Bool × ℕ)
-  pub after : List (Bool × ℕ)
-  pub hold : Hold before
-  pub fails : l ≡ before ++ ((false, n) ∷ after)
-
-pub refused-first : (l : List (Bool × ℕ)) (c : Counts) {n : ℕ} → firstFault l c ≡ Refused n → FirstFails n l
-unfolding firstFault
-refused-first [] c e = let z : _≡_ {A = ℕ} 0 1 = cc in absurd (omega arith)
-refused-first ((true, k) ∷ l) c e =
-    let r = refused-first l c e in
-    record { before = (true, k) ∷ r .before; after = r .after; hold = (refl, r .hold); fails = ap (λ t. (true, k) ∷ t) (r .fails) }
-refused-first ((false, k) ∷ l) c {n} e =
-    let same : k ≡ n = cc in
-    record { before = []; after = l; hold = tt; fails = ap (λ (k : ℕ). (false, k) ∷ l) same }
-
--- .. and then it is refused with that number
-pub first-refused : (l : List (Bool × ℕ)) (c : Counts) {n : ℕ} → FirstFails n l → firstFault l c ≡ Refused n
-unfolding firstFault
-first-refused l c {n} f = rw (f .fails) (go (f .before) (f .hold))
-  where
-    go : (l : List (Bool × ℕ)) → Hold l → firstFault (l ++ ((false, n) ∷ f .after)) c ≡ Refused n
-    go [] h = refl
-    go (t ∷ l) h = rw (h .0) (go l (h .1))
-
 -- ---- tests behind tests
-pub hold-split : (l r : List (Bool × ℕ)) → Hold (l ++ r) → Hold l × Hold r
-hold-split [] r h = (tt, h)
-hold-split (t ∷ l) r h = let s = hold-split l r (h .1) in ((h .0, s .0), s .1)
-
-pub hold-join : (l r : List (Bool × ℕ)) → Hold l → Hold r → Hold (l ++ r)
-hold-join [] r h k = k
-hold-join (t ∷ l) r h k = (h .0, hold-join l r (h .1) k)
-
 abbrev pub andThen : Reading → Reading → Reading
 andThen (Valid c) rest = rest
 andThen (Refused n) rest = Refused n

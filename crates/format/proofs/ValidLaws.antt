@@ -6,7 +6,7 @@ use mathlib.Core.List.{List, map}
 use Prim.Native.Nat.{ℕ, zero, suc, _+_, _*_, _≤_}
 use native.Mathlib.Omega.{arith}
 use borrow.Author.Tests.{leb-true, le-leb}
-use lib.ListN.{length, getD, drop, length-drop, length-take, length-map}
+use lib.ListN.{length, drop, length-drop, length-take, length-map}
 use Rattle.automata.specs.Automaton.{Automaton, WellFormed}
 use Rattle.format.specs.declared.Counts.{Counts}
 use Rattle.format.specs.declared.Reading.the-variants.{Valid}
@@ -16,7 +16,8 @@ use Rattle.format.specs.Encoding.{sizes}
 use Rattle.format.specs.Limits.{Ranges, Fits}
 use Rattle.format.specs.Placed.{whole, OkArcs, Lies}
 use Rattle.automata.specs.Lists.{Each}
-use Rattle.format.proofs.Tests.{Hold, valid-hold, hold-valid, hold-join}
+use Rattle.automata.proofs.ListLaws.{each-join}
+use Rattle.format.proofs.Tests.{Holds, Hold, valid-hold, hold-valid}
 use Rattle.format.proofs.Steps.{letters-length}
 use Rattle.format.proofs.Seen.{HeaderSeen, header-seen, seen-header}
 use Rattle.format.proofs.Fitting.{ArcFits, fits-by}
@@ -48,7 +49,7 @@ file-seen s c e =
 
 pub seen-file : (s : List ℕ) (c : Counts) → FileSeen c s → readingOf s ≡ Valid c
 unfolding readingOf
-seen-file s c f = hold-valid (fileTests s) (countsOf s) (hold-join (headerTests s) (bodyTests (countsOf s) s) (seen-header s (f .header)) body) ∙ ap Valid (f .counts)
+seen-file s c f = hold-valid (fileTests s) (countsOf s) (each-join Holds (headerTests s) (bodyTests (countsOf s) s) (seen-header s (f .header)) body) ∙ ap Valid (f .counts)
   where
     all : Hold (bodyTests c s)
     all = (le-leb (12 + c .letters) (length s) (omega (arith, f .there)), (f .rising, (le-leb _ _ (f .there), (f .flags, f .arcs))))

@@ -1,7 +1,7 @@
 -- Reading: what reading a file answers, its counts or the number of its first fault.
 -- Renders document 01, 'The book file' and 'Refused because of what was handed in', 1 to 9: the tests of a file, each with the
 -- number of the fault where it fails, in the order of reading: left to right, each part there whole before any of it is looked at.
-use mathlib.Core.Bool.{Bool, true, false, not, cond, _||_, _&&_}
+use mathlib.Core.Bool.{Bool, true, not, cond, _||_, _&&_}
 use mathlib.Core.List.{List, [], _∷_, _++_}
 use Prim.Native.Nat.{ℕ, zero, suc, _+_, _*_, _/_, _%_}
 use lib.Dec.{eqb, ltb, leb}
@@ -19,6 +19,7 @@ two s at = getD s at 0 + 256 * getD s (at + 1) 0
 abbrev pub marked : List ℕ → Bool
 marked s = eqb (getD s 0 0) 0x4D && eqb (getD s 1 0) 0x4C && eqb (getD s 2 0) 0x42
 
+-- a letters, s states, n registers, g register symbols and m arcs
 abbrev pub countsOf : List ℕ → Counts
 countsOf s = record { letters = getD s 5 0; states = two s 6; registers = getD s 8 0; symbols = getD s 9 0; arcs = two s 10 }
 
@@ -30,6 +31,7 @@ inRange c =
     && leb 1 (c .symbols) && leb (c .symbols) 16
     && leb (c .arcs) 2048
 
+-- 1 the header wants 12 bytes; 2 mark; 3 version; 4 a header count outside its range
 abbrev pub headerTests : List ℕ → List (Bool × ℕ)
 headerTests s =
     (leb 12 (length s), 1)
@@ -38,7 +40,7 @@ headerTests s =
     ∷ (inRange (countsOf s), 4)
     ∷ []
 
--- ---- the letters, strictly ascending
+-- ---- the letters
 -- `size` bytes from a place on
 abbrev pub part : ℕ → ℕ → List ℕ → List ℕ
 part at size s = take size (drop at s)
@@ -46,18 +48,20 @@ part at size s = take size (drop at s)
 abbrev pub letterBytes : Counts → List ℕ → List ℕ
 letterBytes c s = part 12 (c .letters) s
 
+-- strictly ascending
 unfoldable pub ascending : List ℕ → Bool
 ascending [] = true
 ascending (x ∷ []) = true
 ascending (x ∷ y ∷ l) = ltb x y && ascending (y ∷ l)
 
+-- 1 the letters want a bytes; 5 letters not strictly ascending
 abbrev pub letterTests : Counts → List ℕ → List (Bool × ℕ)
 letterTests c s =
     (leb (12 + c .letters) (length s), 1)
     ∷ (ascending (letterBytes c s), 5)
     ∷ []
 
--- ---- the final flags, each 00 or 01
+-- ---- the final flags
 abbrev pub flagBytes : Counts → List ℕ → List ℕ
 flagBytes c s = part (12 + c .letters) (c .states) s
 
@@ -65,10 +69,12 @@ flagBytes c s = part (12 + c .letters) (c .states) s
 abbrev pub firstArc : Counts → ℕ
 firstArc c = 12 + c .letters + c .states
 
+-- each 00 or 01
 unfoldable pub flags : List ℕ → Bool
 flags [] = true
 flags (x ∷ l) = leb x 1 && flags l
 
+-- 1 the flags want s bytes; 6 a final flag above 01
 abbrev pub flagTests : Counts → List ℕ → List (Bool × ℕ)
 flagTests c s =
     (leb (firstArc c) (length s), 1)
@@ -76,7 +82,7 @@ flagTests c s =
     ∷ []
 
 -- ---- an arc, at the front of l
--- from-state, letter (FF is the empty move), to-state, number of operations
+-- from-state, letter (FF is the empty move), to-state, number p of operations (1 to 8)
 abbrev pub wellFields : Counts → List ℕ → Bool
 wellFields c l =
     ltb (getD l 0 0) (c .states)
@@ -93,7 +99,7 @@ wellOp c x y =
     && ltb y (c .symbols)
     && (not (eqb (x % 16) 0) || (eqb (x / 16) 0 && eqb y 0))
 
--- p operations
+-- p of them
 unfoldable pub wellOps : Counts → ℕ → List ℕ → Bool
 wellOps c zero l = true
 wellOps c (suc p) l = wellOp c (getD l 0 0) (getD l 1 0) && wellOps c p (drop 2 l)
@@ -102,6 +108,7 @@ wellOps c (suc p) l = wellOp c (getD l 0 0) (getD l 1 0) && wellOps c p (drop 2 
 abbrev pub arcSize : List ℕ → ℕ
 arcSize l = 4 + 2 * getD l 3 0
 
+-- 1 an arc wants 4 bytes; 7 its from, letter, to or p; 1 its operations want 2p bytes; 8 an operation
 abbrev pub arcTests : Counts → List ℕ → List (Bool × ℕ)
 arcTests c l =
     (leb 4 (length l), 1)
@@ -110,7 +117,7 @@ arcTests c l =
     ∷ (wellOps c (getD l 3 0) (drop 4 l), 8)
     ∷ []
 
--- ---- m arcs, and nothing after them
+-- ---- m arcs; 9 bytes after the last arc
 unfoldable pub arcsTests : ℕ → Counts → List ℕ → List (Bool × ℕ)
 unfolding wellOps
 arcsTests zero c l = (leb (length l) 0, 9) ∷ []
@@ -121,6 +128,7 @@ arcsTests (suc m) c l = arcTests c l ++ arcsTests m c (drop (arcSize l) l)
 abbrev pub bodyTests : Counts → List ℕ → List (Bool × ℕ)
 bodyTests c s = letterTests c s ++ (flagTests c s ++ arcsTests (c .arcs) c (drop (firstArc c) s))
 
+-- in the order of reading
 abbrev pub fileTests : List ℕ → List (Bool × ℕ)
 fileTests s = headerTests s ++ bodyTests (countsOf s) s
 

@@ -10,7 +10,7 @@ use super::fields::byte;
 use super::fields::operation_kind;
 use super::fields::operation_register;
 
-// The two bytes of an operation.
+// Whether the two bytes at a place are an operation.
 fn is_operation(c: Counts, s: &[u8], at: usize) -> bool
     requires { ⌜ at + 1 < length (now s) ⌝ }
     ensures { λ r. ⌜ r ≡ wellOp c (getD (now (s .entry)) at 0) (getD (now (s .entry)) (at + 1) 0) ⌝ }
@@ -25,7 +25,7 @@ fn is_operation(c: Counts, s: &[u8], at: usize) -> bool
         & ((register != 0) | ((kind == 0) & (symbol == 0)))
 }
 
-// The p operations at the front.
+// Whether the p pairs of bytes at the front are operations.
 fn are_operations(c: Counts, s: &[u8], p: usize) -> bool
     requires { ⌜ 2 * p ≤ length (now s) ⌝ }
     ensures { λ r. ⌜ r ≡ wellOps c p (now (s .entry)) ⌝ }
@@ -40,7 +40,7 @@ fn are_operations(c: Counts, s: &[u8], p: usize) -> bool
     true
 }
 
-// The four bytes of an arc: from, letter, to, number of operations.
+// Whether the four bytes at the front begin an arc: from, letter, to, number of operations.
 fn are_fields(c: Counts, s: &[u8]) -> bool
     requires { ⌜ 4 ≤ length (now s) ⌝ }
     ensures { λ r. ⌜ r ≡ wellFields c (now (s .entry)) ⌝ }
@@ -54,7 +54,7 @@ fn are_fields(c: Counts, s: &[u8]) -> bool
         & (operations <= 8)
 }
 
-// The arc at the front.
+// The counts where the arc at the front has no fault, else the number of its first one.
 fn read_arc(c: Counts, s: &[u8]) -> Reading
     ensures { λ r. ⌜ r ≡ firstFault (arcTests c (now (s .entry))) c ⌝ }
 {
@@ -73,7 +73,7 @@ fn read_arc(c: Counts, s: &[u8]) -> Reading
     Reading::Valid(c)
 }
 
-// All arcs, from a place on, and nothing after them.
+// The counts, or the number of the first fault of the arcs from a place on and of what is after them.
 pub fn read_arcs(c: Counts, file: &[u8], from: usize) -> Reading
     requires { ⌜ from ≤ length (now file) ⌝ }
     ensures { λ r. ⌜ r ≡ firstFault (arcsTests (c .arcs) c (drop from (now (file .entry)))) c ⌝ }

@@ -6,6 +6,7 @@ use super::Counts;
 use super::Reading;
 use super::arcs::read_arcs;
 
+// Whether the bytes ascend strictly.
 fn is_ascending(s: &[u8]) -> bool
     ensures { λ r. ⌜ r ≡ ascending (now (s .entry)) ⌝ }
 {
@@ -19,6 +20,7 @@ fn is_ascending(s: &[u8]) -> bool
     true
 }
 
+// Whether each byte is 00 or 01.
 fn are_flags(s: &[u8]) -> bool
     ensures { λ r. ⌜ r ≡ flags (now (s .entry)) ⌝ }
 {

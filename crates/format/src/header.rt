@@ -8,6 +8,7 @@ use super::Reading;
 use super::fields::byte;
 use super::fields::double;
 
+// Whether the mark is MLB.
 fn has_mark(file: &[u8]) -> bool
     requires { ⌜ 12 ≤ length (now file) ⌝ }
     ensures { λ r. ⌜ r ≡ marked (now (file .entry)) ⌝ }
@@ -15,6 +16,7 @@ fn has_mark(file: &[u8]) -> bool
     (file[0] == 0x4D) & (file[1] == 0x4C) & (file[2] == 0x42)
 }
 
+// The counts as they stand there.
 fn read_counts(file: &[u8]) -> Counts
     requires { ⌜ 12 ≤ length (now file) ⌝ }
     ensures { λ r. ⌜ r ≡ countsOf (now (file .entry)) ⌝ }
@@ -33,6 +35,7 @@ fn read_counts(file: &[u8]) -> Counts
     }
 }
 
+// Whether each count is in its range.
 fn in_range(c: Counts) -> bool
     ensures { λ r. ⌜ r ≡ inRange c ⌝ }
 {

@@ -1,44 +1,35 @@
+-- The file: a header that is refused is the answer, else what follows it is.
 use mathlib.Core.Path.{_≡_, sym, _∙_}
 use Rattle.format.specs.Reading.{countsOf, headerTests, firstFault}
 use Rattle.format.proofs.Seen.{header-ranges, after-header, stops-at-header}
 use borrow.Author.Needs.{needs}
 use Rattle.format.proofs.read.Statement.{statement}
 use Rattle.format.proofs.read.Tie as tie
-use Rattle.format.proofs.read.Reads as reads
-use Rattle.format.proofs.read.Lts as lts
-use Rattle.format.proofs.body.read_body.Reads as read-body-reads
-use Rattle.format.proofs.header.read_header.Reads as read-header-reads
 
 -- the header's answer, of the file
 header : (c : tie.After-read-header) → c .read-header .result ≡ firstFault (headerTests (c .before .before .args .file .now)) (countsOf (c .before .before .args .file .now))
 header c = c .read-header .ensures
 
--- src/lib.rt:47:9
 read-header-requires : tie.Need-read-header-requires
 read-header-requires c κs = search needs
 
--- src/lib.rt:48:24
 enum-known-header : tie.Need-enum-known-header
 enum-known-header c = search needs
 
--- src/lib.rt:49:9
 enum-told : tie.Need-enum-told
 enum-told c = search needs
 
--- src/lib.rt:49:9
 returns : tie.Need-returns
 returns c =
     let told = c .enum-told .given .1 in
     told ∙ sym (stops-at-header (c .before .before .before .before .args .file .now) (sym (header (c .before .before)) ∙ told))
 
--- src/lib.rt:51:5
 read-body-requires : tie.Need-read-body-requires
 read-body-requires c κs =
     let s = c .before .before .before .before .before .args .file .now in
     let r = header-ranges s (sym (header (c .before .before .before)) ∙ c .before .header .given .1) in
     (r .letters, r .states)
 
--- src/lib.rt:44:1
 returns-2 : tie.Need-returns-2
 returns-2 c =
     let s = c .before .before .before .before .before .before .args .file .now in

@@ -1,27 +1,20 @@
+-- Whether four bytes begin an arc: the test itself, of the bytes that were read.
 use borrow.Author.Needs.{needs}
 use Rattle.format.proofs.arcs.are_fields.Statement.{statement}
 use Rattle.format.proofs.arcs.are_fields.Tie as tie
-use Rattle.format.proofs.arcs.are_fields.Reads as reads
-use Rattle.format.proofs.arcs.are_fields.Lts as lts
-use Rattle.format.proofs.fields.byte.Reads as byte-reads
 
--- src/arcs.rt:51:9
 byte-requires : tie.Need-byte-requires
 byte-requires c κs = search needs
 
--- src/arcs.rt:52:9
 byte-requires-2 : tie.Need-byte-requires-2
 byte-requires-2 c κs = search needs
 
--- src/arcs.rt:53:6
 byte-requires-3 : tie.Need-byte-requires-3
 byte-requires-3 c κs = search needs
 
--- src/arcs.rt:55:12
 byte-requires-4 : tie.Need-byte-requires-4
 byte-requires-4 c κs = search needs
 
--- src/arcs.rt:47:1
 returns : tie.Need-returns
 returns c = rw (← c .before .before .before .before .before .before .byte .ensures .0, ← c .before .before .before .before .before .byte2 .ensures .0, ← c .before .before .before .before .byte3 .ensures .0, ← c .before .byte4 .ensures .0)
 

@@ -1,17 +1,14 @@
-use mathlib.Core.Path.{_≡_, refl, sym, _∙_}
+-- Whether p pairs of bytes are operations: all are exactly if those that are left are.
+use mathlib.Core.Path.{_≡_, sym, _∙_}
 use native.Mathlib.Omega.{arith}
 use mathlib.Core.Bool.{_&&_}
 use Prim.Native.Nat.{_+_, _-_, _*_, _≤_}
-use borrow.Author.Needs.{needs}
 use lib.ListN.{getD, drop}
 use Rattle.format.specs.Reading.{wellOp, wellOps}
 use Rattle.format.proofs.Tests.{passed, failed}
 use Rattle.format.proofs.Steps.{ops-at, ops-end}
 use Rattle.format.proofs.arcs.are_operations.Statement.{statement}
 use Rattle.format.proofs.arcs.are_operations.Tie as tie
-use Rattle.format.proofs.arcs.are_operations.Reads as reads
-use Rattle.format.proofs.arcs.are_operations.Lts as lts
-use Rattle.format.proofs.arcs.is_operation.Reads as is-operation-reads
 
 abbrev Inv-loop : tie.InvT-loop
 Inv-loop c s p i₀ i = (i ≤ p) × (wellOps c p s ≡ wellOps c (p - i) (drop (2 * i) s))
@@ -26,35 +23,27 @@ turn c =
     let a = c .before .before .before .args in
     c .before .loop .inv .1 ∙ ops-at (a .c) (a .p) (c .before .loop .i) (a .s .now) (c .loop-test .taken)
 
--- src/arcs.rt:40:5
 loop-holds : tie.Need-loop-holds Inv-loop μ-loop
 loop-holds c = let p = c .before .args .p in let e : p - 0 ≡ p = omega arith in (omega arith, rw e)
 
--- src/arcs.rt:41:32
 mul-is-operation : tie.Need-mul-is-operation Inv-loop μ-loop
 mul-is-operation c = omega arith
 
--- src/arcs.rt:41:13
 is-operation-requires : tie.Need-is-operation-requires Inv-loop μ-loop
 is-operation-requires c κs = omega arith
 
--- src/arcs.rt:42:13
 returns : tie.Need-returns Inv-loop μ-loop
 returns c = sym (turn (c .before .before) ∙ rw (failed (c .before .is-operation .ensures) (c .if1 .taken)))
 
--- src/arcs.rt:44:9
 add-i : tie.Need-add-i Inv-loop μ-loop
 add-i c = omega arith
 
--- src/arcs.rt:40:5
 loop-less : tie.Need-loop-less Inv-loop μ-loop
 loop-less c = omega arith
 
--- src/arcs.rt:40:5
 loop-again : tie.Need-loop-again Inv-loop μ-loop
 loop-again c = (omega arith, turn (c .before .before) ∙ rw (passed (c .before .is-operation .ensures) (c .if1 .left)))
 
--- src/arcs.rt:35:1
 returns-2 : tie.Need-returns-2 Inv-loop μ-loop
 returns-2 c =
     let a = c .before .before .before .args in

@@ -1,3 +1,4 @@
+-- One arc: at each return the tests before it hold, and the one there fails or all hold.
 use mathlib.Core.Path.{_≡_, _∙_}
 use borrow.Author.Tests.{le-leb, lt-leb}
 use lib.ListN.{getD, drop}
@@ -7,12 +8,6 @@ use Rattle.format.proofs.Steps.{tail}
 use borrow.Author.Needs.{needs}
 use Rattle.format.proofs.arcs.read_arc.Statement.{statement}
 use Rattle.format.proofs.arcs.read_arc.Tie as tie
-use Rattle.format.proofs.arcs.read_arc.Reads as reads
-use Rattle.format.proofs.arcs.read_arc.Lts as lts
-use Rattle.format.proofs.arcs.are_fields.Reads as are-fields-reads
-use Rattle.format.proofs.arcs.are_operations.Reads as are-operations-reads
-use Rattle.format.proofs.fields.arc_size.Reads as arc-size-reads
-use Rattle.format.proofs.fields.byte.Reads as byte-reads
 
 -- what the callee said of the part, said of the whole
 operated : (c : tie.After-are-operations) → let c2 = c .before .before .before .before .before in let a = c2 .before .before .before .before .args in
@@ -21,52 +16,41 @@ operated c =
     let c2 = c .before .before .before .before .before in
     c .are-operations .ensures ∙ rw (tail (c2 .before .before .before .before .args .s .now) 4, c .before .byte .ensures .0)
 
--- src/arcs.rt:63:9
 returns : tie.Need-returns
 unfolding firstFault
 returns c = rw (lt-leb _ _ (c .if1 .taken))
 
--- src/arcs.rt:65:9
 are-fields-requires : tie.Need-are-fields-requires
 are-fields-requires c κs = search needs
 
--- src/arcs.rt:66:9
 returns-2 : tie.Need-returns-2
 unfolding firstFault
 returns-2 c = rw (le-leb _ _ (c .before .before .if1 .left), failed (c .before .are-fields .ensures) (c .if2 .taken))
 
--- src/arcs.rt:68:18
 arc-size-requires : tie.Need-arc-size-requires
 arc-size-requires c κs = search needs
 
--- src/arcs.rt:69:9
 returns-3 : tie.Need-returns-3
 unfolding firstFault
 returns-3 c =
     let c2 = c .before .before in
     rw (le-leb _ _ (c2 .before .before .if1 .left), passed (c2 .before .are-fields .ensures) (c2 .if2 .left), ← c .before .arc-size .ensures .0, lt-leb _ _ (c .if3 .taken))
 
--- src/arcs.rt:71:27
 sub-are-operations : tie.Need-sub-are-operations
 sub-are-operations c = search needs
 
--- src/arcs.rt:71:27
 part-are-operations-start : tie.Need-part-are-operations-start
 part-are-operations-start c = search needs
 
--- src/arcs.rt:71:27
 part-are-operations-end : tie.Need-part-are-operations-end
 part-are-operations-end c = search needs
 
--- src/arcs.rt:71:36
 byte-requires : tie.Need-byte-requires
 byte-requires c κs = search needs
 
--- src/arcs.rt:71:9
 are-operations-requires : tie.Need-are-operations-requires
 are-operations-requires c κs = search needs
 
--- src/arcs.rt:72:9
 returns-4 : tie.Need-returns-4
 unfolding firstFault
 returns-4 c =
@@ -80,7 +64,6 @@ returns-4 c =
       failed (operated (c .before)) (c .if4 .taken),
     )
 
--- src/arcs.rt:59:1
 returns-5 : tie.Need-returns-5
 unfolding firstFault
 returns-5 c =

@@ -1,3 +1,4 @@
+-- All arcs: reading the whole answers what reading the arcs that are left, from this place on, answers.
 use mathlib.Core.Path.{_≡_, sym, ap, _∙_}
 use mathlib.Core.List.{[], _∷_}
 use Prim.Native.Nat.{ℕ, _+_, _-_, _≤_}
@@ -6,18 +7,12 @@ use borrow.Author.Needs.{needs}
 use borrow.Author.Tests.{le-leb, lt-leb}
 use lib.Dec.{leb}
 use lib.ListN.{length, drop, length-drop}
-use Rattle.format.specs.declared.Counts.{Counts}
-use Rattle.format.specs.declared.Reading.the-variants.{Valid}
 use Rattle.format.specs.Reading.{arcSize, arcTests, arcsTests, firstFault}
 use Rattle.format.proofs.Tests.{andThen}
 use Rattle.format.proofs.Steps.{tail, arcs-at, arcs-end}
 use Rattle.format.proofs.Seen.{arc-whole}
 use Rattle.format.proofs.arcs.read_arcs.Statement.{statement}
 use Rattle.format.proofs.arcs.read_arcs.Tie as tie
-use Rattle.format.proofs.arcs.read_arcs.Reads as reads
-use Rattle.format.proofs.arcs.read_arcs.Lts as lts
-use Rattle.format.proofs.arcs.read_arc.Reads as read-arc-reads
-use Rattle.format.proofs.fields.arc_size.Reads as arc-size-reads
 
 abbrev Inv-loop : tie.InvT-loop
 Inv-loop c file from at₀ i₀ at i = (i ≤ c .arcs) × (at ≤ length file) × (firstFault (arcsTests (c .arcs) c (drop from file)) c ≡ firstFault (arcsTests (c .arcs - i) c (drop at file)) c)
@@ -62,63 +57,49 @@ end c =
     let l = c .before .before .loop in
     l .inv .2 ∙ rw (arcs-end (a .c .arcs) (l .i) (a .c) (l .at) (a .file .now) (c .if1 .left))
 
--- src/arcs.rt:84:5
 loop-holds : tie.Need-loop-holds Inv-loop μ-loop
 loop-holds c = let m = c .before .args .c .arcs in let e : m - 0 ≡ m = omega arith in (omega arith, omega arith, rw e)
 
--- src/arcs.rt:85:31
 sub-read-arc : tie.Need-sub-read-arc Inv-loop μ-loop
 sub-read-arc c = omega arith
 
--- src/arcs.rt:85:31
 part-read-arc-start : tie.Need-part-read-arc-start Inv-loop μ-loop
 part-read-arc-start c = omega arith
 
--- src/arcs.rt:85:31
 part-read-arc-end : tie.Need-part-read-arc-end Inv-loop μ-loop
 part-read-arc-end c = search needs
 
--- src/arcs.rt:85:13
 read-arc-requires : tie.Need-read-arc-requires Inv-loop μ-loop
 read-arc-requires c κs = search needs
 
 enum-told : tie.Need-enum-told Inv-loop μ-loop
 enum-told c = search needs
 
--- src/arcs.rt:87:13
 enum-told-2 : tie.Need-enum-told-2 Inv-loop μ-loop
 enum-told-2 c = search needs
 
--- src/arcs.rt:87:13
 returns : tie.Need-returns Inv-loop μ-loop
 returns c = sym (turn (c .before .before) ∙ rw (c .enum-told2 .given .1))
 
--- src/arcs.rt:89:15
 arc-size-requires : tie.Need-arc-size-requires Inv-loop μ-loop
 arc-size-requires c κs = omega (arith, there c)
 
--- src/arcs.rt:89:9
 add-at : tie.Need-add-at Inv-loop μ-loop
 add-at c = omega (arith, there (c .before))
 
--- src/arcs.rt:90:9
 add-i : tie.Need-add-i Inv-loop μ-loop
 add-i c = omega arith
 
--- src/arcs.rt:84:5
 loop-less : tie.Need-loop-less Inv-loop μ-loop
 loop-less c = omega arith
 
--- src/arcs.rt:84:5
 loop-again : tie.Need-loop-again Inv-loop μ-loop
 loop-again c = (omega arith, omega (arith, there (c .before)), turn (c .before .before .before) ∙ rw (c .before .enum-told .given .1, c .arc-size .ensures .0))
 
--- src/arcs.rt:93:9
 returns-2 : tie.Need-returns-2 Inv-loop μ-loop
 unfolding firstFault
 returns-2 c = sym (end (c .before) ∙ rw (lt-leb (left (c .before)) 0 (omega arith)))
 
--- src/arcs.rt:78:1
 returns-3 : tie.Need-returns-3 Inv-loop μ-loop
 unfolding firstFault
 returns-3 c = sym (end (c .before) ∙ rw (le-leb (left (c .before)) 0 (omega arith)))

@@ -1,3 +1,4 @@
+-- Whether bytes are flags: the whole are exactly if what is left are.
 use mathlib.Core.Path.{_≡_, refl, sym, _∙_}
 use native.Mathlib.Omega.{arith}
 use mathlib.Core.Bool.{_&&_}
@@ -10,8 +11,6 @@ use Rattle.format.specs.Reading.{flags}
 use Rattle.format.proofs.Steps.{flags-at, flags-end}
 use Rattle.format.proofs.body.are_flags.Statement.{statement}
 use Rattle.format.proofs.body.are_flags.Tie as tie
-use Rattle.format.proofs.body.are_flags.Reads as reads
-use Rattle.format.proofs.body.are_flags.Lts as lts
 
 abbrev Inv-loop : tie.InvT-loop
 Inv-loop s i₀ i = (i ≤ length s) × (flags s ≡ flags (drop i s))
@@ -24,31 +23,24 @@ turn : (c : tie.In-loop Inv-loop μ-loop) → let s = c .before .before .args .s
     flags s ≡ (leb (getD s i 0) 1 && flags (drop (suc i) s))
 turn c = c .before .loop .inv .1 ∙ flags-at (c .before .before .args .s .now) (c .before .loop .i) (omega arith)
 
--- src/body.rt:27:5
 loop-holds : tie.Need-loop-holds Inv-loop μ-loop
 loop-holds c = (omega arith, refl)
 
--- src/body.rt:28:16
 shared-slice-read-if1 : tie.Need-shared-slice-read-if1 Inv-loop μ-loop
 shared-slice-read-if1 c = omega arith
 
--- src/body.rt:29:13
 returns : tie.Need-returns Inv-loop μ-loop
 returns c = sym (turn (c .before .before) ∙ rw (lt-leb _ _ (c .if1 .taken)))
 
--- src/body.rt:31:9
 add-i : tie.Need-add-i Inv-loop μ-loop
 add-i c = omega arith
 
--- src/body.rt:27:5
 loop-less : tie.Need-loop-less Inv-loop μ-loop
 loop-less c = omega arith
 
--- src/body.rt:27:5
 loop-again : tie.Need-loop-again Inv-loop μ-loop
 loop-again c = (omega arith, turn (c .before .before) ∙ rw (le-leb _ _ (c .if1 .left), add-one))
 
--- src/body.rt:23:1
 returns-2 : tie.Need-returns-2 Inv-loop μ-loop
 returns-2 c = sym (c .before .loop .inv .1 ∙ flags-end (c .before .before .args .s .now) (c .before .loop .i) (omega arith))
 

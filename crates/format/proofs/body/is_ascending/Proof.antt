@@ -1,3 +1,4 @@
+-- Whether bytes ascend strictly: the whole ascends exactly if what is left, with the byte before it, does.
 use mathlib.Core.Path.{_≡_, refl, sym, _∙_}
 use native.Mathlib.Omega.{arith}
 use mathlib.Core.Bool.{_&&_}
@@ -9,8 +10,6 @@ use Rattle.format.specs.Reading.{ascending}
 use Rattle.format.proofs.Steps.{ascending-at, ascending-end}
 use Rattle.format.proofs.body.is_ascending.Statement.{statement}
 use Rattle.format.proofs.body.is_ascending.Tie as tie
-use Rattle.format.proofs.body.is_ascending.Reads as reads
-use Rattle.format.proofs.body.is_ascending.Lts as lts
 
 abbrev Inv-loop : tie.InvT-loop
 Inv-loop s i₀ i = (1 ≤ i) × (ascending s ≡ ascending (drop (i - 1) s))
@@ -26,40 +25,31 @@ turn c =
     let e : suc (i - 1) ≡ i = omega arith in
     c .before .loop .inv .1 ∙ ascending-at (c .before .before .args .s .now) (i - 1) (omega arith) ∙ rw e
 
--- src/body.rt:14:5
 loop-holds : tie.Need-loop-holds Inv-loop μ-loop
 loop-holds c = (omega arith, refl)
 
--- src/body.rt:15:12
 shared-slice-read-if1 : tie.Need-shared-slice-read-if1 Inv-loop μ-loop
 shared-slice-read-if1 c = omega arith
 
--- src/body.rt:15:22
 sub-if1 : tie.Need-sub-if1 Inv-loop μ-loop
 sub-if1 c = omega arith
 
--- src/body.rt:15:20
 shared-slice-read-if1-2 : tie.Need-shared-slice-read-if1-2 Inv-loop μ-loop
 shared-slice-read-if1-2 c = omega arith
 
--- src/body.rt:16:13
 returns : tie.Need-returns Inv-loop μ-loop
 returns c = sym (turn (c .before .before .before) ∙ rw (le-ltb _ _ (c .if1 .taken)))
 
--- src/body.rt:18:9
 add-i : tie.Need-add-i Inv-loop μ-loop
 add-i c = omega arith
 
--- src/body.rt:14:5
 loop-less : tie.Need-loop-less Inv-loop μ-loop
 loop-less c = omega arith
 
--- src/body.rt:14:5
 loop-again : tie.Need-loop-again Inv-loop μ-loop
 loop-again c = let e : c .before .before .before .before .loop .i + 1 - 1 ≡ c .before .before .before .before .loop .i = omega arith in
     (omega arith, turn (c .before .before .before) ∙ rw (lt-ltb _ _ (c .if1 .left), e))
 
--- src/body.rt:10:1
 returns-2 : tie.Need-returns-2 Inv-loop μ-loop
 returns-2 c = sym (c .before .loop .inv .1 ∙ ascending-end (c .before .before .args .s .now) (c .before .loop .i - 1) (omega arith))
 

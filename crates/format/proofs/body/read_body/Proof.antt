@@ -1,3 +1,4 @@
+-- What follows the header: at each return the tests before it hold, and the one there fails or all hold.
 use mathlib.Core.Path.{_≡_, ap, _∙_}
 use Prim.Native.Nat.{_+_, _-_}
 use native.Mathlib.Omega.{arith}
@@ -8,11 +9,6 @@ use Rattle.format.proofs.Tests.{passed, failed}
 use borrow.Author.Needs.{needs}
 use Rattle.format.proofs.body.read_body.Statement.{statement}
 use Rattle.format.proofs.body.read_body.Tie as tie
-use Rattle.format.proofs.body.read_body.Reads as reads
-use Rattle.format.proofs.body.read_body.Lts as lts
-use Rattle.format.proofs.arcs.read_arcs.Reads as read-arcs-reads
-use Rattle.format.proofs.body.are_flags.Reads as are-flags-reads
-use Rattle.format.proofs.body.is_ascending.Reads as is-ascending-reads
 
 -- what the callees said of the parts, said of the file
 ascended : (c : tie.After-is-ascending) → let a = c .before .before .before .before .before .args in c .is-ascending .result ≡ ascending (letterBytes (a .c) (a .file .now))
@@ -27,64 +23,50 @@ flagged c =
     let e : 12 + a .c .letters + a .c .states - (12 + a .c .letters) ≡ a .c .states = omega arith in
     c .are-flags .ensures ∙ ap (λ n. flags (take n (drop (12 + a .c .letters) (a .file .now)))) e
 
--- src/body.rt:41:17
 add-flags : tie.Need-add-flags
 add-flags c = search needs
 
--- src/body.rt:43:9
 returns : tie.Need-returns
 unfolding firstFault
 returns c = rw (lt-leb _ _ (c .if1 .taken))
 
--- src/body.rt:45:22
 sub-is-ascending : tie.Need-sub-is-ascending
 sub-is-ascending c = search needs
 
--- src/body.rt:45:22
 part-is-ascending-start : tie.Need-part-is-ascending-start
 part-is-ascending-start c = search needs
 
--- src/body.rt:45:22
 part-is-ascending-end : tie.Need-part-is-ascending-end
 part-is-ascending-end c = search needs
 
--- src/body.rt:45:9
 is-ascending-requires : tie.Need-is-ascending-requires
 is-ascending-requires c κs = search needs
 
--- src/body.rt:46:9
 returns-2 : tie.Need-returns-2
 unfolding firstFault
 returns-2 c = rw (le-leb _ _ (c .before .before .before .if1 .left), failed (ascended (c .before)) (c .if2 .taken))
 
--- src/body.rt:48:16
 add-arcs : tie.Need-add-arcs
 add-arcs c = search needs
 
--- src/body.rt:50:9
 returns-3 : tie.Need-returns-3
 unfolding firstFault
 returns-3 c =
     let c2 = c .before .before in
     rw (le-leb _ _ (c2 .before .before .before .if1 .left), passed (ascended (c2 .before)) (c2 .if2 .left), lt-leb _ _ (c .if3 .taken))
 
--- src/body.rt:52:19
 sub-are-flags : tie.Need-sub-are-flags
 sub-are-flags c = search needs
 
--- src/body.rt:52:19
 part-are-flags-start : tie.Need-part-are-flags-start
 part-are-flags-start c = search needs
 
--- src/body.rt:52:19
 part-are-flags-end : tie.Need-part-are-flags-end
 part-are-flags-end c = search needs
 
--- src/body.rt:52:9
 are-flags-requires : tie.Need-are-flags-requires
 are-flags-requires c κs = search needs
 
--- src/body.rt:53:9
 returns-4 : tie.Need-returns-4
 unfolding firstFault
 returns-4 c =
@@ -92,11 +74,9 @@ returns-4 c =
     let c2 = c3 .before .before in
     rw (le-leb _ _ (c2 .before .before .before .if1 .left), passed (ascended (c2 .before)) (c2 .if2 .left), le-leb _ _ (c3 .if3 .left), failed (flagged (c .before)) (c .if4 .taken))
 
--- src/body.rt:55:5
 read-arcs-requires : tie.Need-read-arcs-requires
 read-arcs-requires c κs = search needs
 
--- src/body.rt:37:1
 returns-5 : tie.Need-returns-5
 unfolding firstFault
 returns-5 c =

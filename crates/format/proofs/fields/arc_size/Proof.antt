@@ -1,29 +1,22 @@
+-- How many bytes an arc takes: its number of operations is the fourth byte from its place on.
 use native.Mathlib.Omega.{arith}
 use lib.Seq.{getD-drop}
 use borrow.Author.Needs.{needs}
 use Rattle.format.proofs.fields.arc_size.Statement.{statement}
 use Rattle.format.proofs.fields.arc_size.Tie as tie
-use Rattle.format.proofs.fields.arc_size.Reads as reads
-use Rattle.format.proofs.fields.arc_size.Lts as lts
-use Rattle.format.proofs.fields.byte.Reads as byte-reads
 
--- src/fields.rt:28:21
 add-byte : tie.Need-add-byte
 add-byte c = search needs
 
--- src/fields.rt:28:13
 byte-requires : tie.Need-byte-requires
 byte-requires c κs = search needs
 
--- src/fields.rt:28:9
 mul-result : tie.Need-mul-result
 mul-result c = search needs
 
--- src/fields.rt:28:5
 add-result : tie.Need-add-result
 add-result c = search needs
 
--- src/fields.rt:24:1
 returns : tie.Need-returns
 returns c = let e = getD-drop (c .before .before .args .at) (c .before .before .args .s .now) 3 0 in (omega (arith, c .byte .ensures), omega (arith, c .byte .ensures))
 

@@ -1,20 +1,16 @@
+-- The byte at a place: it fits a `usize`, since it is below 256.
 use mathlib.Core.Path.{refl}
 use native.Mathlib.Omega.{arith}
 use borrow.Author.Needs.{needs}
 use Rattle.format.proofs.fields.byte.Statement.{statement}
 use Rattle.format.proofs.fields.byte.Tie as tie
-use Rattle.format.proofs.fields.byte.Reads as reads
-use Rattle.format.proofs.fields.byte.Lts as lts
 
--- src/fields.rt:12:5
 shared-slice-read-result : tie.Need-shared-slice-read-result
 shared-slice-read-result c = search needs
 
--- src/fields.rt:12:5
 cast-result : tie.Need-cast-result
 cast-result c = omega (arith, c .shared-slice-known .given (c .before .args .at))
 
--- src/fields.rt:8:1
 returns : tie.Need-returns
 returns c = (refl, c .shared-slice-known .given (c .before .args .at) .fits)
 

@@ -1,10 +1,8 @@
+-- The register of an operation: masking by 15 is the remainder by 16.
 use lib.Bits.{and-mask}
 use Rattle.format.proofs.fields.operation_register.Statement.{statement}
 use Rattle.format.proofs.fields.operation_register.Tie as tie
-use Rattle.format.proofs.fields.operation_register.Reads as reads
-use Rattle.format.proofs.fields.operation_register.Lts as lts
 
--- src/fields.rt:31:1
 returns : tie.Need-returns
 returns c = and-mask (c .args .x) 4
 

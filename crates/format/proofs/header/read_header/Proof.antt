@@ -1,3 +1,4 @@
+-- The header: at each return the tests before it hold, and the one there fails or all hold.
 use mathlib.Core.Path.{ap, _∙_}
 use borrow.Author.Tests.{le-leb, lt-leb, eq-eqb, ne-eqb}
 use Rattle.format.specs.declared.Reading.the-variants.{Valid}
@@ -6,32 +7,21 @@ use Rattle.format.proofs.Tests.{passed, failed}
 use borrow.Author.Needs.{needs}
 use Rattle.format.proofs.header.read_header.Statement.{statement}
 use Rattle.format.proofs.header.read_header.Tie as tie
-use Rattle.format.proofs.header.read_header.Reads as reads
-use Rattle.format.proofs.header.read_header.Lts as lts
-use Rattle.format.proofs.fields.double.Reads as double-reads
-use Rattle.format.proofs.header.has_mark.Reads as has-mark-reads
-use Rattle.format.proofs.header.in_range.Reads as in-range-reads
-use Rattle.format.proofs.header.read_counts.Reads as read-counts-reads
 
--- src/header.rt:55:9
 returns : tie.Need-returns
 unfolding firstFault
 returns c = rw (lt-leb _ _ (c .if1 .taken))
 
--- src/header.rt:57:9
 has-mark-requires : tie.Need-has-mark-requires
 has-mark-requires c κs = search needs
 
--- src/header.rt:58:9
 returns-2 : tie.Need-returns-2
 unfolding firstFault
 returns-2 c = rw (le-leb _ _ (c .before .before .if1 .left), failed (c .before .has-mark .ensures) (c .if2 .taken))
 
--- src/header.rt:60:8
 double-requires : tie.Need-double-requires
 double-requires c κs = search needs
 
--- src/header.rt:61:9
 returns-3 : tie.Need-returns-3
 unfolding firstFault
 returns-3 c =
@@ -39,15 +29,12 @@ returns-3 c =
     let c1 = c2 .before .before in
     rw (le-leb _ _ (c1 .if1 .left), passed (c2 .before .has-mark .ensures) (c2 .if2 .left), ← c .before .double .ensures .0, ne-eqb _ _ (c .if3 .taken))
 
--- src/header.rt:63:9
 read-counts-requires : tie.Need-read-counts-requires
 read-counts-requires c κs = search needs
 
--- src/header.rt:64:9
 in-range-requires : tie.Need-in-range-requires
 in-range-requires c κs = search needs
 
--- src/header.rt:65:9
 returns-4 : tie.Need-returns-4
 unfolding firstFault
 returns-4 c =
@@ -62,7 +49,6 @@ returns-4 c =
       failed (c .before .in-range .ensures ∙ ap inRange (c .before .before .read-counts .ensures)) (c .if4 .taken),
     )
 
--- src/header.rt:51:1
 returns-5 : tie.Need-returns-5
 unfolding firstFault
 returns-5 c =

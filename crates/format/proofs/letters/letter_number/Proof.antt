@@ -1,3 +1,4 @@
+-- The number of a letter: looking through the whole answers what looking through the letters that are left answers.
 use mathlib.Core.Path.{_≡_, refl, sym, _∙_}
 use native.Mathlib.Omega.{arith}
 use mathlib.Core.Bool.{cond}
@@ -12,8 +13,6 @@ use Rattle.format.specs.Letters.{letterFrom}
 use Rattle.format.proofs.Steps.{letter-at, letter-end, letters-length, letters-at}
 use Rattle.format.proofs.letters.letter_number.Statement.{statement}
 use Rattle.format.proofs.letters.letter_number.Tie as tie
-use Rattle.format.proofs.letters.letter_number.Reads as reads
-use Rattle.format.proofs.letters.letter_number.Lts as lts
 
 abbrev Inv-loop : tie.InvT-loop
 Inv-loop c file byte i₀ i = (i ≤ c .letters) × (letterFrom 0 byte (letterBytes c file) ≡ letterFrom i byte (drop i (letterBytes c file)))
@@ -31,39 +30,30 @@ turn c =
     c .before .before .loop .inv .1 ∙ letter-at (a .byte) i (letterBytes (a .c) (a .file .now)) (omega arith)
     ∙ rw (letters-at (a .c) (a .file .now) i (c .if1 .taken))
 
--- src/letters.rt:23:5
 loop-holds : tie.Need-loop-holds Inv-loop μ-loop
 loop-holds c = (omega arith, refl)
 
--- src/letters.rt:24:17
 add-if2 : tie.Need-add-if2 Inv-loop μ-loop
 add-if2 c = omega arith
 
--- src/letters.rt:24:12
 shared-slice-read-if2 : tie.Need-shared-slice-read-if2 Inv-loop μ-loop
 shared-slice-read-if2 c = omega arith
 
--- src/letters.rt:25:31
 cast-t9 : tie.Need-cast-t9 Inv-loop μ-loop
 cast-t9 c = omega arith
 
--- src/letters.rt:25:13
 returns : tie.Need-returns Inv-loop μ-loop
 returns c = sym (turn (c .before .before) ∙ rw (eq-eqb _ _ (c .if2 .taken)))
 
--- src/letters.rt:27:9
 add-i : tie.Need-add-i Inv-loop μ-loop
 add-i c = omega arith
 
--- src/letters.rt:23:5
 loop-less : tie.Need-loop-less Inv-loop μ-loop
 loop-less c = omega arith
 
--- src/letters.rt:23:5
 loop-again : tie.Need-loop-again Inv-loop μ-loop
 loop-again c = (omega arith, turn (c .before .before) ∙ rw (ne-eqb _ _ (c .if2 .left), add-one))
 
--- src/letters.rt:18:1
 returns-2 : tie.Need-returns-2 Inv-loop μ-loop
 returns-2 c =
     let a = c .before .before .before .args in

@@ -1,0 +1,60 @@
+-- RefusalLaws: what the number of a refusal says: it is that of the first test that fails, and one of 1 to 9.
+use mathlib.Core.Path.{_≡_, refl, ap, subst}
+use mathlib.Core.Bool.{Bool, true, false, _&&_}
+use mathlib.Core.List.{List, [], _∷_, _++_}
+use Prim.Native.Nat.{ℕ, zero, suc}
+use native.Mathlib.Omega.{arith}
+use lib.Dec.{leb}
+use lib.ListN.{drop}
+use Rattle.format.specs.declared.Counts.{Counts}
+use Rattle.format.specs.declared.Reading.the-variants.{Refused}
+use Rattle.format.specs.Reading.{countsOf, firstArc, arcSize, arcsTests, fileTests, firstFault}
+use Rattle.automata.specs.Lists.{Each}
+use Rattle.format.proofs.Tests.{Hold}
+
+-- a refused file's tests are some that hold, one that fails with the number of the refusal, and others ..
+pub record FirstFails (n : ℕ) (l : List (Bool × ℕ)) : Type 0 where
+  pub before : List (Bool × ℕ)
+  pub after : List (Bool × ℕ)
+  pub hold : Hold before
+  pub fails : l ≡ before ++ ((false, n) ∷ after)
+
+pub refused-first : (l : List (Bool × ℕ)) (c : Counts) {n : ℕ} → firstFault l c ≡ Refused n → FirstFails n l
+unfolding firstFault
+refused-first [] c e = let z : _≡_ {A = ℕ} 0 1 = cc in absurd (omega arith)
+refused-first ((true, k) ∷ l) c e =
+    let r = refused-first l c e in
+    record { before = (true, k) ∷ r .before; after = r .after; hold = (refl, r .hold); fails = ap (λ t. (true, k) ∷ t) (r .fails) }
+refused-first ((false, k) ∷ l) c {n} e =
+    let same : k ≡ n = cc in
+    record { before = []; after = l; hold = tt; fails = ap (λ (k : ℕ). (false, k) ∷ l) same }
+
+-- .. and then it is refused with that number
+pub first-refused : (l : List (Bool × ℕ)) (c : Counts) {n : ℕ} → FirstFails n l → firstFault l c ≡ Refused n
+unfolding firstFault
+first-refused l c {n} f = rw (f .fails) (go (f .before) (f .hold))
+  where
+    go : (l : List (Bool × ℕ)) → Hold l → firstFault (l ++ ((false, n) ∷ f .after)) c ≡ Refused n
+    go [] h = refl
+    go (t ∷ l) h = rw (h .0) (go l (h .1))
+
+-- the number of a refusal is that of a test ..
+pub refused-number : (P : ℕ → Type 0) (l : List (Bool × ℕ)) (c : Counts) {n : ℕ} → Each (λ t. P (t .1)) l → firstFault l c ≡ Refused n → P n
+unfolding firstFault
+refused-number P [] c h e = let z : _≡_ {A = ℕ} 0 1 = cc in absurd (omega arith)
+refused-number P ((true, k) ∷ l) c h e = refused-number P l c (h .1) e
+refused-number P ((false, k) ∷ l) c {n} h e = let same : k ≡ n = cc in subst P same (h .0)
+
+-- .. and those are 1 to 9
+abbrev pub Known : ℕ → Type 0
+Known n = (leb 1 n && leb n 9) ≡ true
+
+arcs-known : (c : Counts) (m : ℕ) (l : List ℕ) → Each (λ t. Known (t .1)) (arcsTests m c l)
+unfolding arcsTests
+arcs-known c zero l = (refl, tt)
+arcs-known c (suc m) l = (refl, (refl, (refl, (refl, arcs-known c m (drop (arcSize l) l)))))
+
+pub tests-known : (s : List ℕ) → Each (λ t. Known (t .1)) (fileTests s)
+tests-known s =
+    let c = countsOf s in
+    (refl, (refl, (refl, (refl, (refl, (refl, (refl, (refl, arcs-known c (c .arcs) (drop (firstArc c) s)))))))))
