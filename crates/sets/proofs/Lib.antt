@@ -1,0 +1,9 @@
+mod Bits
+mod SetLaws
+mod Tables
+mod Views
+mod Scanning
+mod RowLaws
+mod Closing
+mod Through
+pub mod Laws

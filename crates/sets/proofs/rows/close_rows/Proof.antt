@@ -1,0 +1,68 @@
+-- `sets::rows::close_rows` meets its contract. The loop's invariant: the rows relate what paths through numbers below k do (Closing).
+use borrow.Author.Needs.{needs}
+use borrow.Author.Tests.{not-false}
+use native.Mathlib.Omega.{arith}
+use mathlib.Core.Path.{_≡_, sym, subst}
+use mathlib.Core.Logic.{⊎-elim}
+use Prim.Native.Nat.{_+_, _*_, _-_, _≤_}
+use lib.Dec.{T}
+use Rattle.memory.specs.Frame.{Kept}
+use Rattle.sets.specs.Rows.{related}
+use Rattle.memory.proofs.Laws.{kept-same, kept-then}
+use Rattle.sets.proofs.Closing.{Closing, closing-start, closing-more, closing-skip, closing-end}
+use Rattle.sets.proofs.Through.{unit-row}
+use Rattle.sets.proofs.rows.close_rows.Statement.{statement}
+use Rattle.sets.proofs.rows.close_rows.Tie as tie
+
+abbrev Inv-loop : tie.InvT-loop
+Inv-loop w₀ base n k₀ w k = (k ≤ n) × Kept base (base + 4 * n) w₀ w × Closing n k (related w₀ base) (related w base)
+
+abbrev μ-loop : tie.MeasureT-loop
+μ-loop w₀ base n k₀ w k = n - k
+
+loop-holds : tie.Need-loop-holds Inv-loop μ-loop
+loop-holds c = (omega arith, kept-same _ _ _, closing-start _ _)
+
+loop-again : tie.Need-loop-again Inv-loop μ-loop
+loop-again c =
+    let s = c .before .same in
+    let u = c .before .before .with in
+    let e = c .before .before .before .empty in
+    let d = c .before .before .before .before in
+    let l = d .before .before .before in
+    let a = l .before .before .args in
+    ⊎-elim
+    (λ t. rw (t .5) (omega arith, kept-then (l .loop .inv .1) (t .2 .ensures .0), closing-more (omega arith) (t .2 .ensures .1) (l .loop .inv .2)))
+    (λ t. rw (t .1) (
+      omega arith,
+      l .loop .inv .1,
+      closing-skip (omega arith) (unit-row (l .loop .w) (a .base) (l .loop .k) (e .result) (d .load .ensures) (s .ensures .0 (subst T (sym (not-false (s .result) (t .0 .left))) tt)) (u .ensures) (e .ensures)) (l .loop .inv .2),
+    ))
+    (c .if1 .came)
+
+same-length : tie.Need-same-length Inv-loop μ-loop
+same-length c = c .before .loop .inv .1 .long
+
+returns : tie.Need-returns Inv-loop μ-loop
+returns c =
+    let l = c .before in
+    let e : l .loop .k ≡ l .before .before .args .n = omega arith in
+    (l .loop .inv .1, closing-end (l .before .before .pre .1 .1) (rw e at (l .loop .inv .2)))
+
+pub close-rows-spec : {M : Type 1} → statement M
+close-rows-spec =
+    tie.close
+    (tie.spec
+    Inv-loop
+    μ-loop
+    loop-holds
+    (λ c κs. omega arith)
+    (λ c κs. search needs)
+    (λ c κs. omega arith)
+    (λ c κs. search needs)
+    (λ c κs. omega arith)
+    (λ c. omega arith)
+    (λ c. omega arith)
+    loop-again
+    same-length
+    returns)

@@ -1,0 +1,73 @@
+// Rows: sets in lent words, row i of those from base on, and the closure of the relation that a table of rows is.
+ghost use mathlib.Core.Path.{_≡_};
+ghost use mathlib.Core.Logic.{_↔_};
+ghost use mathlib.Core.Bool.{_||_, _&&_};
+ghost use Prim.Native.Nat.{ℕ, _+_, _*_, _≤_, _<_};
+ghost use lib.Dec.{T};
+ghost use lib.ListN.{length};
+ghost use Rattle.memory.specs.Frame.{Kept};
+ghost use Rattle.sets.specs.Rows.{row, related, Link, Closure};
+use super::empty;
+use super::has;
+use super::same;
+use super::union;
+use super::with;
+
+// Row i.
+// Cost: constant.
+pub fn load(w: &[u64], base: usize, i: usize) -> [u64; 4]
+    requires { ⌜ base + 4 * i + 4 ≤ length (now w) ⌝ }
+    ensures { λ r. ⌜ r ≡ row (now (w .entry)) base i ⌝ }
+{
+    let at = base + 4 * i;
+    [w[at], w[at + 1], w[at + 2], w[at + 3]]
+}
+
+// Row i becomes the set.
+// Cost: constant.
+pub fn store(w: &mut [u64], base: usize, i: usize, set: [u64; 4])
+    requires { ⌜ base + 4 * i + 4 ≤ length (now w) ⌝ }
+    ensures kept { λ _. ⌜ Kept (base + 4 * i) (base + 4 * i + 4) (now (w .entry)) (now (w .exit)) ⌝ }
+    ensures set { λ _. ⌜ row (now (w .exit)) base i ≡ set ⌝ }
+{
+    let at = base + 4 * i;
+    w[at] = set[0];
+    w[at + 1] = set[1];
+    w[at + 2] = set[2];
+    w[at + 3] = set[3];
+}
+
+// What k is related to, each row that has k is now related to as well. Row k is read once: it does not change.
+// Cost: n rows.
+pub fn through(w: &mut [u64], base: usize, n: usize, k: usize)
+    requires { ⌜ (n ≤ 256) × ((k < n) × (base + 4 * n ≤ length (now w))) ⌝ }
+    ensures kept { λ _. ⌜ Kept base (base + 4 * n) (now (w .entry)) (now (w .exit)) ⌝ }
+    ensures set { λ _. ⌜ ((i j : ℕ) → i < n → related (now (w .exit)) base i j ≡ (related (now (w .entry)) base i j || (related (now (w .entry)) base i k && related (now (w .entry)) base k j))) ⌝ }
+{
+    let by = load(w, base, k);
+    let mut i: usize = 0;
+    while i < n {
+        let set = load(w, base, i);
+        if has(set, k) {
+            store(w, base, i, union(set, by));
+        }
+        i += 1;
+    }
+}
+
+// The reflexive and transitive closure of a reflexive relation, by Warshall's algorithm: through each k in turn. A row that
+// holds itself alone leads nowhere else and is passed over.
+// Cost: n rows, and n more for each row that holds another number than its own.
+pub fn close_rows(w: &mut [u64], base: usize, n: usize)
+    requires { ⌜ (n ≤ 256) × ((base + 4 * n ≤ length (now w)) × ((i : ℕ) → i < n → T (related (now w) base i i))) ⌝ }
+    ensures kept { λ _. ⌜ Kept base (base + 4 * n) (now (w .entry)) (now (w .exit)) ⌝ }
+    ensures closed { λ _. ⌜ ((i j : ℕ) → i < n → T (related (now (w .exit)) base i j) ↔ Closure (Link n (related (now (w .entry)) base)) i j) ⌝ }
+{
+    let mut k: usize = 0;
+    while k < n {
+        if !same(load(w, base, k), with(empty(), k)) {
+            through(w, base, n, k);
+        }
+        k += 1;
+    }
+}
