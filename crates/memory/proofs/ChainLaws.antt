@@ -37,15 +37,19 @@ last-of key s (suc n) i h e = go (ℕ-discrete (key n) s) (ℕ-discrete i n) (λ
     go (no p) (no q) ih = let r = ih (omega arith) in rw (last-before key s n p) (omega arith)
 
 -- the last entry has the key, or there is none
-pub last-is : (key : ℕ → ℕ) (s n : ℕ) → (last key s n ≡ noEntry) ⊎ ((last key s n < n) × (key (last key s n) ≡ s))
+abbrev pub LastIs : (ℕ → ℕ) → ℕ → ℕ → Type 0
+LastIs key s n = (last key s n ≡ noEntry) ⊎ ((last key s n < n) × (key (last key s n) ≡ s))
+
+pub last-is : (key : ℕ → ℕ) (s n : ℕ) → LastIs key s n
 last-is key s zero = unfold last in inl refl
 last-is key s (suc n) = go (ℕ-discrete (key n) s) (last-is key s n)
   where
-    go : Dec (key n ≡ s) → (last key s n ≡ noEntry) ⊎ ((last key s n < n) × (key (last key s n) ≡ s)) → (last key s (suc n) ≡ noEntry) ⊎ ((last key s (suc n) < suc n) × (key (last key s (suc n)) ≡ s))
+    go : Dec (key n ≡ s) → LastIs key s n → LastIs key s (suc n)
     go (yes p) d = rw (last-here key s n p) (inr (omega arith, p))
     go (no p) (inl q) = rw (last-before key s n p) (inl q)
     go (no p) (inr q) = rw (last-before key s n p) (inr (omega arith, q .1))
 
+-- it depends on the keys of the entries alone
 pub last-ext : (key key' : ℕ → ℕ) (s n : ℕ) → ((j : ℕ) → j < n → key j ≡ key' j) → last key s n ≡ last key' s n
 unfolding last
 last-ext key key' s zero h = refl
@@ -67,8 +71,9 @@ chain-kept {key} {key'} {w} {w'} {heads} {nexts} {slots} {n} e f g c = record {
 }
 
 -- entry n joins the chain of s: field n of the nexts is the head so far, and the head is n
-pub pushed : {w w1 w2 : List ℕ} (heads nexts s n before : ℕ) → Kept (nexts + n / 4) (nexts + n / 4 + 1) w w1 → Kept (heads + s / 4) (heads + s / 4 + 1) w1 w2
-    → before ≡ field w heads s → ((j : ℕ) → field w1 nexts j ≡ cond (eqb j n) before (field w nexts j)) → ((j : ℕ) → field w2 heads j ≡ cond (eqb j s) n (field w1 heads j))
+pub pushed : {w w1 w2 : List ℕ} (heads nexts s n before : ℕ)
+    → Kept (nexts + n / 4) (nexts + n / 4 + 1) w w1 → Kept (heads + s / 4) (heads + s / 4 + 1) w1 w2 → before ≡ field w heads s
+    → ((j : ℕ) → field w1 nexts j ≡ cond (eqb j n) before (field w nexts j)) → ((j : ℕ) → field w2 heads j ≡ cond (eqb j s) n (field w1 heads j))
     → (key : ℕ → ℕ) (slots : ℕ) → Chain key w heads nexts slots n → Apart heads slots nexts (n + 1) → s < slots → key n ≡ s → Chain key w2 heads nexts slots (n + 1)
 pushed {w} {w1} {w2} heads nexts s n before k1 k2 b f1 f2 key slots c d l e = record {
   head = λ t g. f2 t ∙ ap (cond (eqb t s) n) (field-same w w1 heads t (kept-other k1 (heads + t / 4) (d t n g (omega arith))) ∙ c .head t g) ∙ first t (ℕ-discrete t s);

@@ -112,7 +112,10 @@ put-field w base k v h g j = go (ℕ-discrete (j / 4) (k / 4)) (ℕ-discrete j k
 
 -- ---- filling: the first i of the n words are all ones
 
-all-ones : (q : ℕ) → q < 4 → digitOf 0xFFFF_FFFF_FFFF_FFFF q ≡ 65535
+abbrev pub allOnes : ℕ
+allOnes = 0xFFFF_FFFF_FFFF_FFFF
+
+all-ones : (q : ℕ) → q < 4 → digitOf allOnes q ≡ 65535
 all-ones zero h = refl
 all-ones (suc zero) h = refl
 all-ones (suc (suc zero)) h = refl
@@ -122,21 +125,21 @@ all-ones (suc (suc (suc (suc q)))) h = absurd (omega arith)
 pub record Filled (base n i : ℕ) (w₀ w : List ℕ) : Type 0 where
   pub few : i ≤ n
   pub kept : Kept base (base + n) w₀ w
-  pub done : (j : ℕ) → j < i → getD w (base + j) 0 ≡ 0xFFFF_FFFF_FFFF_FFFF
+  pub done : (j : ℕ) → j < i → getD w (base + j) 0 ≡ allOnes
 
 pub filled-start : (base n : ℕ) (w : List ℕ) → Filled base n 0 w w
 filled-start base n w = record { few = omega arith; kept = kept-same base (base + n) w; done = λ j h. absurd (omega arith) }
 
-pub filled-more : {base n i : ℕ} {w₀ w : List ℕ} → i < n → base + n ≤ length w₀ → Filled base n i w₀ w → Filled base n (i + 1) w₀ (set w (base + i) 0xFFFF_FFFF_FFFF_FFFF)
+pub filled-more : {base n i : ℕ} {w₀ w : List ℕ} → i < n → base + n ≤ length w₀ → Filled base n i w₀ w → Filled base n (i + 1) w₀ (set w (base + i) allOnes)
 filled-more {base} {n} {i} {w₀} {w} h l f = record {
   few = omega arith;
-  kept = kept-then (f .kept) (kept-wider (omega arith) (omega arith) (kept-set w (base + i) 0xFFFF_FFFF_FFFF_FFFF));
+  kept = kept-then (f .kept) (kept-wider (omega arith) (omega arith) (kept-set w (base + i) allOnes));
   done = λ j g. go j g (ℕ-discrete j i);
 }
   where
-    go : (j : ℕ) → j < i + 1 → Dec (j ≡ i) → getD (set w (base + i) 0xFFFF_FFFF_FFFF_FFFF) (base + j) 0 ≡ 0xFFFF_FFFF_FFFF_FFFF
-    go j g (yes e) = rw e (getD-set-same w (base + i) 0xFFFF_FFFF_FFFF_FFFF 0 (omega (arith, f .kept .long)))
-    go j g (no n) = getD-set-other w (base + i) (base + j) 0xFFFF_FFFF_FFFF_FFFF 0 (λ p. n (omega arith)) ∙ f .done j (omega arith)
+    go : (j : ℕ) → j < i + 1 → Dec (j ≡ i) → getD (set w (base + i) allOnes) (base + j) 0 ≡ allOnes
+    go j g (yes e) = rw e (getD-set-same w (base + i) allOnes 0 (omega (arith, f .kept .long)))
+    go j g (no n) = getD-set-other w (base + i) (base + j) allOnes 0 (λ p. n (omega arith)) ∙ f .done j (omega arith)
 
 pub filled-end : {base n i : ℕ} {w₀ w : List ℕ} → n ≤ i → Filled base n i w₀ w → (k : ℕ) → k < 4 * n → field w base k ≡ 65535
 unfolding field

@@ -4,11 +4,11 @@ pub use Rattle.memory.proofs.FrameLaws.{kept-same, kept-then, kept-wide
 -- a field whose word is as it was; a field's size
 pub use Rattle.memory.proofs.FieldLaws.{field-same, field-lt}
 -- chains start with filled heads, and stay while their words and keys do; `push` itself says how an entry joins
-pub use Rattle.memory.proofs.ChainLaws.{chain-start, chain-kept}
--- a walk along a chain
-pub use Rattle.memory.proofs.Lookup.{OnChain, on-chain, off-chain, chosen-on, chosen-off}
+pub use Rattle.memory.proofs.ChainLaws.{last-is, chain-start, chain-kept}
+-- a walk along a chain sees the entries with the key, the last first
 unfoldable pub use Rattle.memory.proofs.Lookup.{chosen}
--- a loop that looks for a hit: the invariant Looked, with the measure (g + 1) % 65536
+pub use Rattle.memory.proofs.Lookup.{OnChain, on-chain, off-chain, chosen-on, chosen-off}
+-- a loop that looks for a hit along a chain: the invariant Looked, with the measure (g + 1) % 65536
 pub use Rattle.memory.proofs.Lookup.{Looked, looked-start, looked-more, looked-end, found-hit}
 -- what is found is the number that an exploration gives
 pub use Rattle.memory.proofs.Numbers.{found-number, word-number}

@@ -1,7 +1,7 @@
-mod FrameLaws
-mod FieldLaws
-mod ChainLaws
-mod Lookup
-mod WordLaws
-mod Numbers
+pub mod FrameLaws
+pub mod FieldLaws
+pub mod ChainLaws
+pub mod Lookup
+pub mod WordLaws
+pub mod Numbers
 pub mod Laws

@@ -14,7 +14,8 @@ use Rattle.memory.proofs.ChainLaws.{chain-kept}
 -- x is written as word n, and n pushed onto the chain of s, the key of x
 module _ {w w' : List ℕ} {table heads nexts s : ℕ} (n x : ℕ) (r : Room w table heads nexts (n + 1)) (e : s ≡ slot x) (l : s < 509)
     (k : Beside (heads + s / 4) (nexts + n / 4) (set w (table + n) x) w')
-    (f : (key : ℕ → ℕ) (slots : ℕ) → Chain key (set w (table + n) x) heads nexts slots n → Apart heads slots nexts (n + 1) → s < slots → key n ≡ s → Chain key w' heads nexts slots (n + 1)) where
+    (f : (key : ℕ → ℕ) (slots : ℕ) → Chain key (set w (table + n) x) heads nexts slots n → Apart heads slots nexts (n + 1) → s < slots → key n ≡ s
+    → Chain key w' heads nexts slots (n + 1)) where
   kept : Kept (table + n) (nexts + n / 4 + 1) w w'
   kept = kept-then (kept-wider (omega arith) (omega arith) (kept-set w (table + n) x)) (beside-kept (omega arith) (omega arith) (omega arith) (omega arith) k)
 

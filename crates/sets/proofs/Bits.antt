@@ -3,7 +3,7 @@ use mathlib.Core.Path.{_≡_, refl, sym, ap, ap₂, _∙_, subst}
 use mathlib.Core.Logic.{_↔_}
 use mathlib.Core.Bool.{Bool, false, not, _||_, _&&_, or-comm}
 use Prim.Native.Nat.{ℕ, zero, suc, _+_, _*_, _/_, _%_, _^_, _≤_, _<_, suc-le-suc, zero-le}
-use native.Mathlib.Nat.{one-mul, zero-div, mod-lt, div-eq-of-lt, div-one, mul-div-mul-right, mul-mod-left, pow-suc, zero-lt-suc, lt-of-lt-of-le}
+use native.Mathlib.Nat.{one-mul, zero-mul, zero-div, mod-lt, div-eq-of-lt, div-one, mul-div-mul-right, mul-mod-left, pow-suc, zero-lt-suc, lt-of-lt-of-le}
 use native.Mathlib.Omega.{arith}
 use borrow.Author.Tests.{ne-eqb}
 use lib.Dec.{T, eqb, eqb·zero-suc, eqb·suc-zero, eqb·suc-suc, lit<}
@@ -92,7 +92,7 @@ and-one : (x k : ℕ) → bitAnd x (2 ^ k) ≡ x / 2 ^ k % 2 * 2 ^ k
 and-one x k = subst (λ (m : ℕ). bitAnd x m ≡ x / 2 ^ k % 2 * 2 ^ k) (high-ones 1 k ∙ one-mul (2 ^ k)) (and-high x 1 k)
 
 digit-test : (d p : ℕ) → d < 2 → 0 < p → not (eqb (d * p) 0) ≡ eqb d 1
-digit-test zero p h q = rw native.Mathlib.Nat.zero-mul
+digit-test zero p h q = rw zero-mul
 digit-test (suc zero) p h q = ap not (ne-eqb (1 * p) 0 (λ e. omega (arith, e)))
 digit-test (suc (suc d)) p h q = absurd (omega arith)
 
@@ -116,11 +116,14 @@ or-is-zero a b = (λ e. omega (arith, or-add-and a b, and-le-l a b, and-le-r a b
 pub xor-is-zero : (a b : ℕ) → (bitXor a b ≡ 0) ↔ (a ≡ b)
 xor-is-zero a b = (λ e. omega (arith, xor-add-and a b, and-le-l a b, and-le-r a b), λ e. rw e (xor-self b))
 
+same-digit : (x y : ℕ) → x < 2 → y < 2 → eqb x 1 ≡ eqb y 1 → x ≡ y
+same-digit = digits (λ x y. eqb x 1 ≡ eqb y 1 → x ≡ y) (λ e. refl) (λ e. absurd (subst T (sym e) tt)) (λ e. absurd (subst T e tt)) (λ e. refl)
+
 -- two words with the same digits
 pub same-bits : (k a b : ℕ) → a < 2 ^ k → b < 2 ^ k → ((j : ℕ) → j < k → bit a j ≡ bit b j) → a ≡ b
 same-bits zero a b ha hb h = omega arith
 same-bits (suc k) a b ha hb h =
-    let low : a % 2 ≡ b % 2 = digits (λ x y. eqb x 1 ≡ eqb y 1 → x ≡ y) (λ e. refl) (λ e. absurd (subst T (sym e) tt)) (λ e. absurd (subst T e tt)) (λ e. refl) (a % 2) (b % 2) (omega arith) (omega arith) (sym (bit-first a) ∙ h 0 (suc-le-suc zero-le) ∙ bit-first b) in
+    let low : a % 2 ≡ b % 2 = same-digit (a % 2) (b % 2) (omega arith) (omega arith) (sym (bit-first a) ∙ h 0 (suc-le-suc zero-le) ∙ bit-first b) in
     let high : a / 2 ≡ b / 2 = same-bits k (a / 2) (b / 2) (omega arith) (omega arith) (λ j l. sym (bit-suc a j) ∙ h (suc j) (suc-le-suc l) ∙ bit-suc b j) in
     omega arith
 

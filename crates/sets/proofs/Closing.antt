@@ -8,7 +8,7 @@ use native.Mathlib.Omega.{arith}
 use borrow.Author.Tests.{eq-eqb, ne-eqb}
 use lib.Dec.{T, eqb}
 use Rattle.sets.specs.Rows.{Link, Closure, here, next}
-use Rattle.sets.proofs.Tables.{or-iff, and-iff}
+use Rattle.automata.proofs.ListLaws.{or-iff, and-iff}
 
 -- R, and its steps by way of k
 abbrev pub via : (ℕ → ℕ → Bool) → ℕ → ℕ → ℕ → Bool
@@ -67,7 +67,8 @@ closing-skip {n} {k} {R₀} {R} l e c = closing-more l (λ i j h. go i j (ℕ-di
     go i j (no p) = rw (e j, ne-eqb j k p, and-false (R i k)) (sym (or-false (R i j)))
 
 -- through all of them: the closure
-pub closing-end : {n : ℕ} {R₀ R : ℕ → ℕ → Bool} → ((i : ℕ) → i < n → T (R₀ i i)) → Closing n n R₀ R → (i j : ℕ) → i < n → T (R i j) ↔ Closure (Link n R₀) i j
+pub closing-end : {n : ℕ} {R₀ R : ℕ → ℕ → Bool} → ((i : ℕ) → i < n → T (R₀ i i)) → Closing n n R₀ R
+    → (i j : ℕ) → i < n → T (R i j) ↔ Closure (Link n R₀) i j
 closing-end {n} {R₀} {R} d c i j h = (c .sound i j h, λ p. walk h p)
   where
     walk : {a b : ℕ} → a < n → Closure (Link n R₀) a b → T (R a b)

@@ -1,9 +1,9 @@
-mod Bits
-mod SetLaws
-mod Tables
-mod Views
-mod Scanning
-mod RowLaws
-mod Closing
-mod Through
+pub mod Bits
+pub mod SetLaws
+pub mod Tables
+pub mod Views
+pub mod Scanning
+pub mod RowLaws
+pub mod Closing
+pub mod Through
 pub mod Laws

@@ -1,16 +1,18 @@
 -- RowLaws: laws of rows of four words in lent words.
 use mathlib.Core.Path.{_≡_, refl, sym, ap, _∙_}
 use mathlib.Core.Logic.{_≢_}
+use mathlib.Core.Bool.{Bool, false, _||_, or-false}
 use mathlib.Core.List.{List, [], _∷_, _++_, append-assoc}
 use Prim.Native.Nat.{ℕ, suc, _+_, _*_, _^_, _≤_, _<_}
 use native.Mathlib.Decide.{decLt}
 use native.Mathlib.Numerals.{add-one, add-two, add-three}
 use native.Mathlib.Omega.{arith}
-use lib.Dec.{lit<}
+use lib.Dec.{eqb, lit<}
 use lib.ListN.{length, getD, take, drop, set, length-take, length-drop, List·getD-eq-default}
 use lib.Seq.{ext-getD, getD-take, getD-drop, take-at, drop-at, length-take-le, sets, sets-eq}
 use Rattle.memory.specs.Frame.{Kept}
-use Rattle.sets.specs.Rows.{row}
+use Rattle.sets.specs.Sets.{inSet}
+use Rattle.sets.specs.Rows.{row, related}
 use Rattle.memory.proofs.Laws.{kept-same, kept-then, kept-wider, kept-set}
 use Rattle.sets.proofs.SetLaws.{Four, four-words}
 
@@ -31,10 +33,17 @@ row-four w base i h f = record { long = row-length w base i h; fits = λ q. go q
     go q (yes l) = rw (row-at w base i q l) (f (base + 4 * i + q))
     go q (no l) = rw (List·getD-eq-default (row w base i) 0 {n = q} (omega (arith, row-length w base i h))) (lit< tt)
 
+-- a row that holds its own number alone, as `with(empty(), k)` makes it
+pub unit-row : (w : List ℕ) (base k : ℕ) (none : List ℕ) {unit : List ℕ} → row w base k ≡ unit → ((j : ℕ) → inSet unit j ≡ (eqb j k || inSet none j))
+    → ((j : ℕ) → inSet none j ≡ false) → (j : ℕ) → related w base k j ≡ eqb j k
+unfolding related
+unit-row w base k none is f g j = ap (λ (s : List ℕ). inSet s j) is ∙ f j ∙ ap (λ (b : Bool). eqb j k || b) (g j) ∙ or-false (eqb j k)
+
 -- ---- frames
 
 -- a row whose words are as they were
-pub row-same : (w w' : List ℕ) (base i : ℕ) → length w' ≡ length w → ((q : ℕ) → q < 4 → getD w' (base + 4 * i + q) 0 ≡ getD w (base + 4 * i + q) 0) → row w' base i ≡ row w base i
+pub row-same : (w w' : List ℕ) (base i : ℕ) → length w' ≡ length w
+    → ((q : ℕ) → q < 4 → getD w' (base + 4 * i + q) 0 ≡ getD w (base + 4 * i + q) 0) → row w' base i ≡ row w base i
 unfolding row
 row-same w w' base i e f =
     ext-getD 0 (row w' base i) (row w base i) (simp (length-take, length-drop, e))
@@ -67,16 +76,21 @@ loaded w base i h =
 -- the words vs are written one after the other
 kept-sets : (vs w : List ℕ) (at : ℕ) → Kept at (at + length vs) w (sets w at vs)
 kept-sets [] w at = kept-same at (at + 0) w
-kept-sets (x ∷ vs) w at = kept-then (kept-wider (omega arith) (omega arith) (kept-set w at x)) (kept-wider (omega arith) (omega arith) (kept-sets vs (set w at x) (suc at)))
+kept-sets (x ∷ vs) w at =
+    kept-then (kept-wider (omega arith) (omega arith) (kept-set w at x)) (kept-wider (omega arith) (omega arith) (kept-sets vs (set w at x) (suc at)))
 
 sets-there : (vs w : List ℕ) (at : ℕ) → at + length vs ≤ length w → take (length vs) (drop at (sets w at vs)) ≡ vs
 sets-there vs w at h =
     ap (λ (l : List ℕ). take (length vs) (drop at l)) (sets-eq vs w at h ∙ append-assoc (take at w) vs (drop (at + length vs) w))
-    ∙ ap (take (length vs)) (drop-at (take at w) (vs ++ drop (at + length vs) w) at (length-take-le at w (omega arith))) ∙ take-at vs (drop (at + length vs) w) (length vs) refl
+    ∙ ap (take (length vs)) (drop-at (take at w) (vs ++ drop (at + length vs) w) at (length-take-le at w (omega arith)))
+    ∙ take-at vs (drop (at + length vs) w) (length vs) refl
+
+-- the words of s, one by one
+abbrev pub written : List ℕ → ℕ → List ℕ → List ℕ
+written w at s = set (set (set (set w at (getD s 0 0)) (at + 1) (getD s 1 0)) (at + 2) (getD s 2 0)) (at + 3) (getD s 3 0)
 
 pub stored : (w : List ℕ) (base i : ℕ) (s : List ℕ) → base + 4 * i + 4 ≤ length w → length s ≡ 4
-    → Kept (base + 4 * i) (base + 4 * i + 4) w (set (set (set (set w (base + 4 * i) (getD s 0 0)) (base + 4 * i + 1) (getD s 1 0)) (base + 4 * i + 2) (getD s 2 0)) (base + 4 * i + 3) (getD s 3 0))
-    × (row (set (set (set (set w (base + 4 * i) (getD s 0 0)) (base + 4 * i + 1) (getD s 1 0)) (base + 4 * i + 2) (getD s 2 0)) (base + 4 * i + 3) (getD s 3 0)) base i ≡ s)
+    → Kept (base + 4 * i) (base + 4 * i + 4) w (written w (base + 4 * i) s) × (row (written w (base + 4 * i) s) base i ≡ s)
 unfolding row
 stored w base i s h e =
     let vs : List ℕ = getD s 0 0 ∷ getD s 1 0 ∷ getD s 2 0 ∷ getD s 3 0 ∷ [] in

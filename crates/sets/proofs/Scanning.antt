@@ -32,8 +32,9 @@ in-rest-of s at j h e =
     let d : j % 64 ≡ bitAnd at 63 + (j - at) = omega (arith, mask-is at) in
     ap₂ (λ (q i : ℕ). bit (getD s q 0) i) e d ∙ sym (bit-shift (getD s (at / 64) 0) (bitAnd at 63) (j - at))
 
--- none up to before t, where the digits from `at` to before t are 0 and t is no further than the word's end
-scanned-on : {s : List ℕ} {c at : ℕ} (t : ℕ) → Scanned s c at → at + t ≤ at / 64 * 64 + 64 → ((i : ℕ) → i < t → ¬ T (bit (restOf s at) i)) → (j : ℕ) → c ≤ j → j < at + t → ¬ T (inSet s j)
+-- none in the next t numbers either, if they are in the same word and their digits are 0
+scanned-on : {s : List ℕ} {c at : ℕ} (t : ℕ) → Scanned s c at → at + t ≤ at / 64 * 64 + 64 → ((i : ℕ) → i < t → ¬ T (bit (restOf s at) i))
+    → (j : ℕ) → c ≤ j → j < at + t → ¬ T (inSet s j)
 scanned-on {s} {c} {at} t k h z j l g u = go (decLt j at)
   where
     go : Dec (j < at) → ⊥
@@ -52,7 +53,8 @@ scanned-skip {s} {c} {at} h e k =
     }
 
 -- the word has one: its lowest digit
-pub scanned-hit : {s : List ℕ} {c at : ℕ} → ((i : ℕ) → getD s i 0 < 2 ^ 64) → at < 256 → ¬ (restOf s at ≡ 0) → Scanned s c at → Next s c (at + trailingZeros 64 (restOf s at))
+pub scanned-hit : {s : List ℕ} {c at : ℕ} → ((i : ℕ) → getD s i 0 < 2 ^ 64) → at < 256 → ¬ (restOf s at ≡ 0) → Scanned s c at
+    → Next s c (at + trailingZeros 64 (restOf s at))
 scanned-hit {s} {c} {at} f h q k = record {
   low = omega (arith, k .low);
   high = omega (arith, inside, mask-is at);

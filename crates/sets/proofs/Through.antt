@@ -5,7 +5,6 @@ use mathlib.Core.List.{List}
 use Prim.Native.Nat.{ℕ, _+_, _*_, _≤_, _<_}
 use native.Mathlib.Decide.{ℕ-discrete}
 use native.Mathlib.Omega.{arith}
-use lib.Dec.{eqb}
 use Rattle.sets.specs.Sets.{inSet}
 use Rattle.memory.specs.Frame.{Kept}
 use Rattle.sets.specs.Rows.{row, related}
@@ -48,7 +47,8 @@ module _ {base n i : ℕ} {w₀ w set by : List ℕ} (k : ℕ) (h : i < n) (c : 
   -- k is not in it
   pub through-off : inSet set k ≡ false → Passed base n (i + 1) (via (related w₀ base) k) w₀ w
   through-off e = passed-more h c (kept-same _ _ w) (λ j.
-      ap (λ (s : List ℕ). inSet s j) (sym is) ∙ mine j ∙ sym (or-false (related w₀ base i j)) ∙ ap (λ (b : Bool). related w₀ base i j || (b && related w₀ base k j)) (sym e ∙ mine k))
+      ap (λ (s : List ℕ). inSet s j) (sym is) ∙ mine j ∙ sym (or-false (related w₀ base i j))
+      ∙ ap (λ (b : Bool). related w₀ base i j || (b && related w₀ base k j)) (sym e ∙ mine k))
 
   -- k is in it: it becomes the union of both
   pub through-on : {w' : List ℕ} {u : List ℕ} → inSet set k ≡ true → Kept (base + 4 * i) (base + 4 * i + 4) w w' → row w' base i ≡ u
@@ -57,9 +57,3 @@ module _ {base n i : ℕ} {w₀ w set by : List ℕ} (k : ℕ) (h : i < n) (c : 
   through-on e q r f = passed-more h c q (λ j.
       ap (λ (s : List ℕ). inSet s j) r ∙ f j ∙ ap₂ (λ (a : Bool) (s : List ℕ). a || inSet s j) (mine j) was
       ∙ ap (λ (b : Bool). related w₀ base i j || (b && related w₀ base k j)) (sym e ∙ mine k))
-
--- ---- a row that holds its own number alone
-pub unit-row : (w : List ℕ) (base k : ℕ) (none : List ℕ) {unit own : List ℕ} → own ≡ row w base k → own ≡ unit → ((j : ℕ) → inSet unit j ≡ (eqb j k || inSet none j))
-    → ((j : ℕ) → inSet none j ≡ false) → (j : ℕ) → related w base k j ≡ eqb j k
-unfolding related
-unit-row w base k none is same f g j = ap (λ (s : List ℕ). inSet s j) (sym is ∙ same) ∙ f j ∙ ap (λ (b : Bool). eqb j k || b) (g j) ∙ or-false (eqb j k)

@@ -1,7 +1,7 @@
 -- Views: a set of four words as the list of tests that Live calls a set. These laws are what callers cite.
 use mathlib.Core.Path.{_≡_, refl, sym, ap, ap₂, _∙_}
 use mathlib.Core.Logic.{_↔_}
-use mathlib.Core.Bool.{Bool}
+use mathlib.Core.Bool.{Bool, false}
 use mathlib.Core.List.{List, [], _∷_}
 use Prim.Native.Nat.{ℕ, zero, suc, _+_, _-_, _*_, _/_, _%_, _^_, _≤_, _<_}
 use native.Mathlib.Nat.{add-zero}
@@ -11,8 +11,11 @@ use lib.ListN.{length, getD}
 use lib.Seq.{ext-getD}
 use lib.Count.{ones, ones-step}
 use Rattle.automata.specs.Live.{table, in?, count, meets}
+use Rattle.automata.proofs.ListLaws.{bool-ext}
+use Rattle.automata.proofs.LiveLaws.{length-table, in-table}
+use Rattle.automata.proofs.UnfoldingLaws.{meets-iff}
 use Rattle.sets.specs.Sets.{bit, inSet, view, Within}
-use Rattle.sets.proofs.Tables.{test-ext, length-table, in-table, table-ext, table-of, table-append, count-append, count-none, count-first, meets-iff}
+use Rattle.sets.proofs.Tables.{table-ext, table-of, table-append, count-append, count-none, count-first}
 use Rattle.sets.proofs.Bits.{bit-first, bit-suc, same-bits}
 use Rattle.sets.proofs.SetLaws.{Four, four-words, place}
 
@@ -27,7 +30,7 @@ in-view n s j = in-table n (inSet s) j
 -- the link to the definitions: four words with the members of S are S
 pub view-is : (n : ℕ) (s : List ℕ) (S : List Bool) → length S ≡ n → ((j : ℕ) → j < n → T (inSet s j) ↔ T (in? S j)) → view n s ≡ S
 unfolding view
-view-is n s S e h = table-ext n (λ j l. test-ext (h j l)) ∙ ap (λ (k : ℕ). table k (in? S)) (sym e) ∙ table-of S
+view-is n s S e h = table-ext n (λ j l. bool-ext (inSet s j) (in? S j) (h j l .0) (h j l .1)) ∙ ap (λ (k : ℕ). table k (in? S)) (sym e) ∙ table-of S
 
 -- two sets with the same members are the same words
 pub set-ext : {s t : List ℕ} → Four s → Four t → ((j : ℕ) → inSet s j ≡ inSet t j) → s ≡ t
@@ -37,17 +40,16 @@ set-ext {s} {t} fs ft h =
 
 -- equal views, of sets of numbers below n, are the same words
 pub view-inj : {n : ℕ} {s t : List ℕ} → Four s → Four t → Within n s → Within n t → view n s ≡ view n t → s ≡ t
-view-inj {n} {s} {t} fs ft ws wt e = set-ext fs ft (λ j. test-ext (
-  λ x. in-view n t j .0 (rw e at (in-view n s j .1 (ws j x, x))) .1,
-  λ x. in-view n s j .0 (rw (← e) at (in-view n t j .1 (wt j x, x))) .1,
-))
+view-inj {n} {s} {t} fs ft ws wt e =
+    set-ext fs ft (λ j. bool-ext (inSet s j) (inSet t j)
+    (λ x. in-view n t j .0 (rw e at (in-view n s j .1 (ws j x, x))) .1) (λ x. in-view n s j .0 (rw (← e) at (in-view n t j .1 (wt j x, x))) .1))
 
 -- `meets` answers what the definition does, for a set of numbers below n
 pub meets-view : {n : ℕ} (a b : List ℕ) {r : Bool} → Within n a → T r ↔ ((j : ℕ) × T (inSet a j) × T (inSet b j)) → r ≡ meets (view n a) (view n b)
-meets-view {n} a b w h = test-ext (
-  λ t. let p = h .0 t in meets-iff (view n a) (view n b) .1 (p .0, in-view n a (p .0) .1 (w (p .0) (p .1), p .1), in-view n b (p .0) .1 (w (p .0) (p .1), p .2)),
-  λ t. let p = meets-iff (view n a) (view n b) .0 t in h .1 (p .0, in-view n a (p .0) .0 (p .1) .1, in-view n b (p .0) .0 (p .2) .1),
-)
+meets-view {n} a b {r} w h =
+    bool-ext r (meets (view n a) (view n b))
+    (λ t. let p = h .0 t in meets-iff (view n a) (view n b) .1 (p .0, in-view n a (p .0) .1 (w (p .0) (p .1), p .1), in-view n b (p .0) .1 (w (p .0) (p .1), p .2)))
+    (λ t. let p = meets-iff (view n a) (view n b) .0 t in h .1 (p .0, in-view n a (p .0) .0 (p .1) .1, in-view n b (p .0) .0 (p .2) .1))
 
 -- ---- how many members
 
@@ -57,7 +59,7 @@ unfolding view
 count-within {m} {n} s h w =
     let e : m ≡ n + (m - n) = omega arith in
     ap (λ (k : ℕ). count (table k (inSet s))) e ∙ ap count (table-append n (m - n) (inSet s)) ∙ count-append (table n (inSet s)) (table (m - n) (λ i. inSet s (n + i)))
-    ∙ ap (λ (x : ℕ). count (table n (inSet s)) + x) (count-none (m - n) (λ i. inSet s (n + i)) (λ j. test-ext (λ t. absurd (omega (arith, w (n + j) t)), λ t. absurd t)))
+    ∙ ap (λ (x : ℕ). count (table n (inSet s)) + x) (count-none (m - n) (λ i. inSet s (n + i)) (λ j. bool-ext (inSet s (n + j)) false (λ t. absurd (omega (arith, w (n + j) t))) (λ t. absurd t)))
     ∙ add-zero (count (table n (inSet s)))
 
 -- the digits 1 of a word of k digits

@@ -15,7 +15,8 @@ add-w : tie.Need-add-w
 add-w c =
     let a = c .before .args in
     let x = getD (a .w .now) (a .base + a .k / 4) 0 in
-    rw (put-is x (a .k % 4) (a .v) (omega arith) (omega arith)) (record { fits = put-fits 4 x (a .k % 4) (a .v) (c .slice-known .given (a .base + a .k / 4) .fits) (omega arith) (omega arith) })
+    rw (put-is x (a .k % 4) (a .v) (omega arith) (omega arith))
+    (record { fits = put-fits 4 x (a .k % 4) (a .v) (c .slice-known .given (a .base + a .k / 4) .fits) (omega arith) (omega arith) })
 
 returns : tie.Need-returns
 returns c =

@@ -2,15 +2,16 @@
 use borrow.Author.Needs.{needs}
 use borrow.Author.Tests.{not-false}
 use native.Mathlib.Omega.{arith}
-use mathlib.Core.Path.{_≡_, sym, subst}
+use mathlib.Core.Path.{_≡_, sym, _∙_, subst}
 use mathlib.Core.Logic.{⊎-elim}
+use mathlib.Core.Bool.{Bool, not, false}
 use Prim.Native.Nat.{_+_, _*_, _-_, _≤_}
 use lib.Dec.{T}
 use Rattle.memory.specs.Frame.{Kept}
 use Rattle.sets.specs.Rows.{related}
 use Rattle.memory.proofs.Laws.{kept-same, kept-then}
 use Rattle.sets.proofs.Closing.{Closing, closing-start, closing-more, closing-skip, closing-end}
-use Rattle.sets.proofs.Through.{unit-row}
+use Rattle.sets.proofs.RowLaws.{unit-row}
 use Rattle.sets.proofs.rows.close_rows.Statement.{statement}
 use Rattle.sets.proofs.rows.close_rows.Tie as tie
 
@@ -19,6 +20,9 @@ Inv-loop w₀ base n k₀ w k = (k ≤ n) × Kept base (base + 4 * n) w₀ w × 
 
 abbrev μ-loop : tie.MeasureT-loop
 μ-loop w₀ base n k₀ w k = n - k
+
+same-yes : (t : Bool) → not t ≡ false → T t
+same-yes t e = subst T (sym (not-false t e)) tt
 
 loop-holds : tie.Need-loop-holds Inv-loop μ-loop
 loop-holds c = (omega arith, kept-same _ _ _, closing-start _ _)
@@ -36,7 +40,9 @@ loop-again c =
     (λ t. rw (t .1) (
       omega arith,
       l .loop .inv .1,
-      closing-skip (omega arith) (unit-row (l .loop .w) (a .base) (l .loop .k) (e .result) (d .load .ensures) (s .ensures .0 (subst T (sym (not-false (s .result) (t .0 .left))) tt)) (u .ensures) (e .ensures)) (l .loop .inv .2),
+      closing-skip (omega arith)
+          (unit-row (l .loop .w) (a .base) (l .loop .k) (e .result) (sym (d .load .ensures) ∙ s .ensures .0 (same-yes (s .result) (t .0 .left))) (u .ensures) (e .ensures))
+          (l .loop .inv .2),
     ))
     (c .if1 .came)
 

@@ -1,0 +1,178 @@
+-- Going: the walk along the arcs of one configuration. What is left of the chain gives the whole.
+use mathlib.Core.Path.{_∙_, _≡_, ap, refl, sym, subst}
+use mathlib.Core.Logic.{⊎-elim}
+use Prim.Native.Nat.{_%_, _*_, _+_, _/_, _<_, _^_, _≤_, ℕ}
+use lib.Dec.{eqb}
+use lib.ListN.{drop, getD, length}
+use lib.Seq.{drop-drop, getD-drop}
+use mathlib.Core.List.{List, [], _++_, _∷_, append-assoc, append-nil}
+use mathlib.Core.Option.{Option, none, some}
+use native.Mathlib.Omega.{arith}
+use Rattle.automata.specs.Exploration.{add, addAll, number}
+use Rattle.automata.specs.Lists.{collect, prepend}
+use Rattle.automata.specs.Live.{PlainArc}
+use Rattle.explore.specs.Arcs.{ArcAt, Indexed, Linked, Walkable, placeOf}
+use Rattle.explore.specs.Map.{KeptBut, arcHeads, arcNexts, configs, mapEnd, offsets, startsAt}
+use Rattle.explore.specs.Packed.{Hop, hop, hopWith, hops, performPacked, plainArc, plainsOf, tos}
+use Rattle.explore.specs.Tables.{Configured, Counted, Tabled}
+use Rattle.explore.specs.declared.Outcome.{Outcome}
+use Rattle.explore.specs.declared.Outcome.the-variants.{Failed, Leaves}
+use Rattle.format.specs.Decoding.{letterOf}
+use Rattle.format.specs.Reading.{firstArc}
+use Rattle.format.specs.declared.Counts.{Counts}
+use Rattle.memory.specs.Chains.{last}
+use Rattle.memory.specs.Fields.{field}
+use Rattle.automata.proofs.ExplorationLaws.{addAll-length}
+use Rattle.explore.proofs.Frames.{but-same, but-then}
+use Rattle.explore.proofs.Linking.{hops-chosen, hopsOf, stateOf}
+use Rattle.explore.proofs.Places.{entry-at}
+use Rattle.memory.proofs.Laws.{last-is, field-same, OnChain, chosen, chosen-off, chosen-on, off-chain, on-chain}
+
+-- with the hops that are left the tables come to be those of `whole` and `list`
+pub record Left (w : List ℕ) (base known plain c : ℕ) (rest : List Hop) (whole : List ℕ) (list : List PlainArc) : Type 0 where
+  pub all : List ℕ
+  pub plains : List PlainArc
+  pub tabled : Tabled w base known plain all plains
+  pub makes : addAll eqb all (tos rest) ≡ whole
+  pub lists : plains ++ plainsOf c all rest ≡ list
+
+left-start : {w : List ℕ} {base known plain : ℕ} (c : ℕ) (rest : List Hop) {all : List ℕ} {plains : List PlainArc} → Tabled w base known plain all plains
+    → Left w base known plain c rest (addAll eqb all (tos rest)) (plains ++ plainsOf c all rest)
+left-start c rest {all} {plains} t = record { all = all; plains = plains; tabled = t; makes = refl; lists = refl }
+
+-- the next hop is taken
+abbrev pub Took : List ℕ → List ℕ → ℕ → ℕ → ℕ → ℕ → ℕ → ℕ → Hop → Type 0
+Took w w′ base known plain k p c h =
+    (all : List ℕ) (plains : List PlainArc) → Tabled w base known plain all plains → Tabled w′ base k p (add eqb all (h .to)) (plains ++ plainArc c (h .letter) (number eqb (h .to) all) ∷ [])
+
+left-more : {w w′ : List ℕ} {base known plain k p c : ℕ} {h : Hop} {rest : List Hop} {whole : List ℕ} {list : List PlainArc} → Took w w′ base known plain k p c h
+    → Left w base known plain c (h ∷ rest) whole list → Left w′ base k p c rest whole list
+unfolding addAll plainsOf
+left-more {c = c} {h = h} {rest = rest} took l = record {
+  all = add eqb (l .all) (h .to);
+  plains = l .plains ++ plainArc c (h .letter) (number eqb (h .to) (l .all)) ∷ [];
+  tabled = took (l .all) (l .plains) (l .tabled);
+  makes = l .makes;
+  lists = append-assoc (l .plains) (plainArc c (h .letter) (number eqb (h .to) (l .all)) ∷ []) (plainsOf c (add eqb (l .all) (h .to)) rest) ∙ l .lists;
+}
+
+left-over : {w : List ℕ} {base known plain c : ℕ} {h : Hop} {rest : List Hop} {whole : List ℕ} {list : List PlainArc}
+    → ((all : List ℕ) (plains : List PlainArc) → Tabled w base known plain all plains → 256 < length (add eqb all (h .to))) → Left w base known plain c (h ∷ rest) whole list → 256 < length whole
+unfolding addAll
+left-over {h = h} {rest = rest} many l = omega (arith, many (l .all) (l .plains) (l .tabled), addAll-length eqb (add eqb (l .all) (h .to)) (tos rest), ap length (l .makes))
+
+left-end : {w : List ℕ} {base known plain c : ℕ} {whole : List ℕ} {list : List PlainArc} → Left w base known plain c [] whole list → Tabled w base known plain whole list
+unfolding addAll plainsOf
+left-end {w} {base} {known} {plain} l = rw (← l .makes, ← l .lists, append-nil (l .plains)) (l .tabled)
+
+-- ---- the arcs of configuration c, which is `own`, from the words w₀ on; entry j of their chain is next
+abbrev pub allHops : List ℕ → Counts → ℕ → List Hop
+allHops file n own = hops (n .arcs) (drop (firstArc n) file) own
+
+pub record Going (file w₀ : List ℕ) (n : Counts) (base c known₀ plain₀ own : ℕ) (w : List ℕ) (known plain j : ℕ) : Type 0 where
+  pub kept : KeptBut configs mapEnd base (startsAt base) w₀ w
+  pub more : known₀ ≤ known
+  pub configured : Configured w known
+  pub upto : ℕ
+  pub few : upto ≤ n .arcs
+  pub here : j ≡ last (stateOf file w₀) (own / 2 ^ 32) upto
+  pub room : plain + upto ≤ plain₀ + n .arcs
+  pub left : (all : List ℕ) (plains : List PlainArc) → Tabled w₀ base known₀ plain₀ all plains
+      → Left w base known plain c (hopsOf file w₀ own (chosen (stateOf file w₀) (own / 2 ^ 32) upto)) (addAll eqb all (tos (allHops file n own))) (plains ++ plainsOf c all (allHops file n own))
+
+module _ {file w₀ : List ℕ} {n : Counts} (base c known₀ plain₀ own : ℕ) where
+  pub going-start : {j : ℕ} → Indexed n file w₀ → Linked n file w₀ → Configured w₀ known₀ → own / 2 ^ 32 < 256 → j ≡ field w₀ arcHeads (own / 2 ^ 32)
+      → Going file w₀ n base c known₀ plain₀ own w₀ known₀ plain₀ j
+  going-start i l k small e = record {
+    kept = but-same configs mapEnd base (startsAt base) w₀;
+    more = omega arith;
+    configured = k;
+    upto = n .arcs;
+    few = omega arith;
+    here = e ∙ l .head (own / 2 ^ 32) small;
+    room = omega arith;
+    left = λ all plains t. rw (← hops-chosen n file w₀ own i) (left-start c (allHops file n own) t);
+  }
+
+hop-at : (file : List ℕ) (at own : ℕ)
+    → hop (drop at file) own ≡ hopWith (performPacked (getD file (at + 3) 0) (drop (at + 4) file) (own % 2 ^ 32)) (letterOf (getD file (at + 1) 0)) (getD file (at + 2) 0)
+unfolding hop
+hop-at file at own = rw (getD-drop at file 1 0, getD-drop at file 2 0, getD-drop at file 3 0, drop-drop 4 at file)
+
+module _ {file w₀ : List ℕ} {n : Counts} {base c known₀ plain₀ own : ℕ} {w : List ℕ} {known plain j : ℕ} (g : Going file w₀ n base c known₀ plain₀ own w known plain j)
+    (y : Walkable n file) (i : Indexed n file w₀) (l : Linked n file w₀) where
+  -- ---- a turn at entry j, whose arc is at `at`
+  module _ (less : j < n .arcs) {at : ℕ} (is : at ≡ placeOf w j) where
+    on : OnChain (stateOf file w₀) w₀ arcNexts (own / 2 ^ 32) (g .upto) j
+    on = on-chain l (omega (arith, y .lies .few)) (own / 2 ^ 32) (g .few) (g .here) less
+
+    place : at ≡ placeOf w₀ j
+    place = is ∙ field-same w₀ w offsets j (g .kept .below (offsets + j / 4) (omega (arith, y .lies .few)))
+
+    -- the arc stands whole in the file
+    pub arc-here : ArcAt file at
+    arc-here = rw place (entry-at w₀ y i j less)
+
+    -- it has p operations, and the next entry is j′
+    module _ {p j′ : ℕ} (size : p ≡ getD file (at + 3) 0) (next : j′ ≡ field w arcNexts j) where
+      onward : j′ ≡ last (stateOf file w₀) (own / 2 ^ 32) j
+      onward = next ∙ field-same w₀ w arcNexts j (g .kept .below (arcNexts + j / 4) (omega (arith, y .lies .few))) ∙ on .onward
+
+      pub going-less : (j′ + 1) % 65536 < (j + 1) % 65536
+      going-less = ⊎-elim (λ d. omega (arith, onward, d, y .lies .few)) (λ d. omega (arith, onward, d .0, y .lies .few)) (last-is (stateOf file w₀) (own / 2 ^ 32) j)
+
+      -- what the arc makes of the configuration comes first
+      abbrev outcome : Outcome
+      outcome = performPacked p (drop (at + 4) file) (own % 2 ^ 32)
+
+      unroll : hopsOf file w₀ own (chosen (stateOf file w₀) (own / 2 ^ 32) (g .upto))
+          ≡ prepend (hopWith outcome (letterOf (getD file (at + 1) 0)) (getD file (at + 2) 0)) (hopsOf file w₀ own (chosen (stateOf file w₀) (own / 2 ^ 32) j))
+      unfolding collect
+      unroll = rw (chosen-on (stateOf file w₀) (own / 2 ^ 32) (g .upto) j (on .below) (on .keyed) (on .none), ← place, hop-at file at own, size)
+
+      -- the arc fails
+      pub going-failed : outcome ≡ Failed → Going file w₀ n base c known₀ plain₀ own w known plain j′
+      going-failed f = record {
+        kept = g .kept;
+        more = g .more;
+        configured = g .configured;
+        upto = j;
+        few = omega arith;
+        here = onward;
+        room = omega (arith, g .room, on .below);
+        left = λ all plains t. rw (unroll, f) at (g .left all plains t);
+      }
+
+      -- the arc passes, and leaves v
+      abbrev pub hopHere : ℕ → Hop
+      hopHere v = record { letter = letterOf (getD file (at + 1) 0); to = v + getD file (at + 2) 0 * 2 ^ 32 }
+
+      module _ {v : ℕ} (f : outcome ≡ Leaves v) where
+        passed : (all : List ℕ) (plains : List PlainArc) → Tabled w₀ base known₀ plain₀ all plains
+            → Left w base known plain c (hopHere v ∷ hopsOf file w₀ own (chosen (stateOf file w₀) (own / 2 ^ 32) j)) (addAll eqb all (tos (allHops file n own))) (plains ++ plainsOf c all (allHops file n own))
+        passed all plains t = rw (unroll, f) at (g .left all plains t)
+
+        pub going-met : {w′ : List ℕ} {k q : ℕ} → KeptBut configs mapEnd base (startsAt base) w w′ → Counted w′ known (plain + 1) k q → Took w w′ base known plain k q c (hopHere v)
+            → Going file w₀ n base c known₀ plain₀ own w′ k q j′
+        going-met b s took = record {
+          kept = but-then (g .kept) b;
+          more = omega (arith, g .more, s .more);
+          configured = s .configured;
+          upto = j;
+          few = omega arith;
+          here = onward;
+          room = omega (arith, g .room, on .below, s .few);
+          left = λ all plains t. left-more took (passed all plains t);
+        }
+
+        -- or there are too many
+        pub going-over : ((all : List ℕ) (plains : List PlainArc) → Tabled w base known plain all plains → 256 < length (add eqb all (hopHere v .to)))
+            → (all : List ℕ) (plains : List PlainArc) → Tabled w₀ base known₀ plain₀ all plains → 256 < length (addAll eqb all (tos (allHops file n own)))
+        going-over many all plains t = left-over many (passed all plains t)
+
+  -- ---- the end of the chain
+  pub going-end : n .arcs ≤ j → (all : List ℕ) (plains : List PlainArc) → Tabled w₀ base known₀ plain₀ all plains
+      → Tabled w base known plain (addAll eqb all (tos (allHops file n own))) (plains ++ plainsOf c all (allHops file n own))
+  unfolding collect
+  going-end h all plains t =
+      left-end (rw (chosen-off (stateOf file w₀) (own / 2 ^ 32) (g .upto) (off-chain (stateOf file w₀) (own / 2 ^ 32) (g .few) (g .here) h)) at (g .left all plains t))

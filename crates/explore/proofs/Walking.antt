@@ -1,0 +1,110 @@
+-- Walking: the walk over the configurations in number order: a turn, leaving it early, and its end.
+use mathlib.Core.Path.{_∙_, _≡_, ap, refl, sym, subst}
+use Prim.Native.Nat.{_*_, _+_, _-_, _/_, _<_, _≤_, suc, zero, ℕ}
+use borrow.Author.Tests.{eq-eqb, le-leb, ne-eqb}
+use lib.Dec.{eqb, leb}
+use lib.ListN.{drop, getD, getElem?, length, length-append}
+use mathlib.Core.Bool.{_&&_, cond}
+use mathlib.Core.List.{List, [], _++_, _∷_, append-nil}
+use mathlib.Core.Option.{some}
+use native.Mathlib.Decide.{ℕ-discrete}
+use native.Mathlib.Nat.{add-suc, add-zero}
+use native.Mathlib.Numerals.{add-one}
+use native.Mathlib.Omega.{arith}
+use Rattle.automata.specs.Exploration.{addAll, known}
+use Rattle.automata.specs.Live.{PlainArc}
+use Rattle.explore.specs.Arcs.{Indexed, Linked}
+use Rattle.explore.specs.Map.{KeptBut, Placed, blockEnd, configs, mapEnd, startsAt}
+use Rattle.explore.specs.Packed.{hops, knownPacked, nextPacked, plainsOf, plainsUpTo, tos}
+use Rattle.explore.specs.Tables.{Configured, Counted, Tabled}
+use Rattle.memory.specs.Fields.{field}
+use Rattle.memory.specs.Frame.{Kept}
+use Rattle.automata.proofs.ExplorationLaws.{known-ended, known-long}
+use Rattle.automata.proofs.ListLaws.{at-none}
+use Rattle.explore.proofs.Finding.{all-at, all-length, placed-kept}
+use Rattle.explore.proofs.Frames.{but-high, but-same, but-then, but-wider}
+use Rattle.explore.proofs.Numbering.{next-known}
+use Rattle.explore.proofs.Tabling.{configured-kept, tabled-kept}
+use Rattle.memory.proofs.Laws.{field-same}
+
+-- c of the configurations have been walked, those of m arcs at the front of l
+pub record Walking (m : ℕ) (l w₀ : List ℕ) (base : ℕ) (w : List ℕ) (k p c : ℕ) : Type 0 where
+  pub kept : KeptBut configs mapEnd base (blockEnd base) w₀ w
+  pub configured : Configured w k
+  pub turns : c ≤ 256
+  pub few : p ≤ c * 2048
+  pub tabled : Tabled w base k p (knownPacked m l c) (plainsUpTo m l c)
+  pub starts : p ≤ 2048 → (s : ℕ) → s < c → field w (startsAt base) s ≡ length (plainsUpTo m l s)
+
+pub walking-start : {m : ℕ} {l w : List ℕ} {base : ℕ} → Configured w 1 → Tabled w base 1 0 (0 ∷ []) [] → Walking m l w base w 1 0 0
+unfolding knownPacked known plainsUpTo
+walking-start {w = w} {base = base} g t = record {
+  kept = but-same configs mapEnd base (blockEnd base) w;
+  configured = g;
+  turns = omega arith;
+  few = omega arith;
+  tabled = t;
+  starts = λ h s less. absurd (omega arith);
+}
+
+module _ {m : ℕ} {l w₀ : List ℕ} {base : ℕ} {w w₁ : List ℕ} {k p c : ℕ} (few : m ≤ 2048) (place : Placed w₀ base) (g : Walking m l w₀ base w k p c) (less : c < k)
+    (k₁ : Kept (startsAt base) (blockEnd base) w w₁) (noted : (s : ℕ) → field w₁ (startsAt base) s ≡ cond (leb p 2048 && eqb s c) p (field w (startsAt base) s)) where
+  abbrev own : ℕ
+  own = getD w₁ (configs + c) 0
+
+  -- the start is noted: nothing else changes
+  pub placed-noted : Placed w₁ base
+  placed-noted = placed-kept (k₁ .long ∙ g .kept .long) place
+
+  pub configured-noted : Configured w₁ k
+  configured-noted = configured-kept (λ j x y. k₁ .below j (omega (arith, place .above))) (g .configured)
+
+  pub tabled-noted : Tabled w₁ base k p (knownPacked m l c) (plainsUpTo m l c)
+  tabled-noted = tabled-kept (g .configured .few) (k₁ .long) (λ j x y. k₁ .below j (omega (arith, place .above))) (λ j x y. k₁ .below j y) (g .tabled)
+
+  next-all : knownPacked m l (suc c) ≡ addAll eqb (knownPacked m l c) (tos (hops m l own))
+  next-all = next-known m l c own (all-at placed-noted (g .configured .few) tabled-noted c less)
+
+  next-plains : plainsUpTo m l (suc c) ≡ plainsUpTo m l c ++ plainsOf c (knownPacked m l c) (hops m l own)
+  unfolding plainsUpTo
+  next-plains = rw (all-at placed-noted (g .configured .few) tabled-noted c less)
+
+  -- the configuration has been walked
+  pub walking-more : {w₂ : List ℕ} {k′ p′ : ℕ} → KeptBut configs mapEnd base (startsAt base) w₁ w₂ → Counted w₂ k (p + m) k′ p′
+      → Tabled w₂ base k′ p′ (addAll eqb (knownPacked m l c) (tos (hops m l own))) (plainsUpTo m l c ++ plainsOf c (knownPacked m l c) (hops m l own))
+      → Walking m l w₀ base w₂ k′ p′ (c + 1)
+  walking-more {w₂} {k′} {p′} k₂ s t = record {
+    kept = but-then (g .kept) (but-then (but-high (omega (arith, place .above)) (omega arith) (omega arith) k₁) (but-wider (omega arith) (omega arith) (omega arith) (omega arith) k₂));
+    configured = s .configured;
+    turns = omega (arith, g .configured .few);
+    few = omega (arith, g .few, s .few);
+    tabled = rw (add-one c, next-all, next-plains) t;
+    starts = λ h i less′. field-same w₁ w₂ (startsAt base) i (k₂ .above (startsAt base + i / 4) (omega arith)) ∙ noted i ∙ start h i less′ (ℕ-discrete i c);
+  }
+    where
+      fewer : p ≤ p′
+      fewer = omega (arith, t .count, g .tabled .count, length-append (plainsUpTo m l c) (plainsOf c (knownPacked m l c) (hops m l own)))
+
+      start : p′ ≤ 2048 → (i : ℕ) → i < c + 1 → Dec (i ≡ c) → cond (leb p 2048 && eqb i c) p (field w (startsAt base) i) ≡ length (plainsUpTo m l i)
+      start h i less′ (yes e) = rw (le-leb p 2048 (omega (arith, fewer)), eq-eqb i c e, e) (g .tabled .count)
+      start h i less′ (no n) = rw (le-leb p 2048 (omega (arith, fewer)), ne-eqb i c n) (g .starts (omega (arith, fewer)) i (omega arith))
+
+  -- more than so many met are more than so many in all
+  pub walking-over : (L : ℕ) → c < L → 256 < length (addAll eqb (knownPacked m l c) (tos (hops m l own))) → 256 < length (knownPacked m l L)
+  unfolding knownPacked
+  walking-over L h f =
+      let e : suc c + (L - suc c) ≡ L = omega arith in
+      omega (arith, rw e at (known-long eqb (nextPacked m l) (0 ∷ []) (suc c) (L - suc c)), ap length next-all)
+
+-- ---- the end: all have been walked
+plains-ended : (m : ℕ) (l : List ℕ) (c j : ℕ) → length (knownPacked m l c) ≤ c → plainsUpTo m l (c + j) ≡ plainsUpTo m l c
+unfolding plainsUpTo knownPacked
+plains-ended m l c zero h = rw add-zero
+plains-ended m l c (suc j) h = rw (add-suc c j, known-ended eqb (nextPacked m l) (0 ∷ []) c j h, at-none (knownPacked m l c) (c + j) (omega arith), append-nil) (plains-ended m l c j h)
+
+pub walking-end : {m : ℕ} {l w₀ : List ℕ} {base : ℕ} {w : List ℕ} {k p c : ℕ} (L : ℕ) → Placed w base → Walking m l w₀ base w k p c → k ≤ c → c ≤ L → Tabled w base k p (knownPacked m l L) (plainsUpTo m l L)
+unfolding knownPacked
+walking-end {m} {l} {c = c} L place g h f =
+    let e : c + (L - c) ≡ L = omega arith in
+    let n : length (knownPacked m l c) ≤ c = omega (arith, all-length place (g .configured .few) (g .tabled)) in
+    rw (← e, known-ended eqb (nextPacked m l) (0 ∷ []) c (L - c) n, plains-ended m l c (L - c) n) (g .tabled)

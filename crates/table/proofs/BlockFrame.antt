@@ -1,0 +1,94 @@
+-- BlockFrame: words written elsewhere leave a block as it was, and what it stands for.
+use mathlib.Core.Path.{_∙_, _≡_, ap, refl, subst, sym}
+use mathlib.Core.Logic.{_↔_, _⊎_, ⊎-elim}
+use mathlib.Core.Bool.{Bool, cond, false, true}
+use mathlib.Core.List.{List}
+use Prim.Native.Nat.{_%_, _*_, _+_, _/_, _<_, _≤_, ℕ}
+use native.Mathlib.Omega.{arith}
+use borrow.Author.Tests.{ltb-true}
+use lib.Dec.{T, ltb}
+use lib.ListN.{getD, length}
+use Rattle.automata.specs.Live.{PlainArc}
+use Rattle.automata.proofs.ListLaws.{iff-trans}
+use Rattle.explore.specs.Map.{arcsAt, blockEnd, startsAt}
+use Rattle.memory.specs.Fields.{field}
+use Rattle.memory.specs.Frame.{Kept}
+use Rattle.memory.proofs.Laws.{field-same}
+use Rattle.sets.specs.Sets.{inSet}
+use Rattle.sets.specs.Rows.{related}
+use Rattle.sets.proofs.Laws.{row-same}
+use Rattle.table.specs.Stepping.{Among, Held, Room, Starts, endAt, startAt}
+
+-- the words of the block are as they were
+pub record SameBlock (base : ℕ) (w w' : List ℕ) : Type 0 where
+  pub long : length w' ≡ length w
+  pub words : (i : ℕ) → base ≤ i → i < blockEnd base → getD w' i 0 ≡ getD w i 0
+
+-- what was written stands below the block or above it
+pub block-kept : {base a b : ℕ} {w w' : List ℕ} → Kept a b w w' → (b ≤ base) ⊎ (blockEnd base ≤ a) → SameBlock base w w'
+block-kept k s = record { long = k .long; words = λ i l h. ⊎-elim (λ u. k .above i (omega arith)) (λ u. k .below i (omega arith)) s }
+
+-- an end of the listed arcs is a place of the list
+pub end-few : {w : List ℕ} {base count plain : ℕ} (c : ℕ) → Starts w base count plain → endAt w base count plain c ≤ 2048
+unfolding endAt
+end-few {w} {base} {count} {plain} c s = go (ltb (c + 1) count) refl
+  where
+    go : (b : Bool) → ltb (c + 1) count ≡ b → cond (ltb (c + 1) count) (startAt w base (c + 1)) plain ≤ 2048
+    go true e = rw e (s .each (c + 1) (ltb-true (c + 1) count e))
+    go false e = rw e (s .less)
+
+module _ {w w' : List ℕ} {base : ℕ} (b : SameBlock base w w') where
+  pub arc-kept : (i : ℕ) → i < 2048 → field w' (arcsAt base) i ≡ field w (arcsAt base) i
+  arc-kept i h = field-same w w' (arcsAt base) i (b .words (arcsAt base + i / 4) (omega arith) (omega arith))
+
+  pub start-kept : (i : ℕ) → i < 256 → startAt w' base i ≡ startAt w base i
+  unfolding startAt
+  start-kept i h = field-same w w' (startsAt base) i (b .words (startsAt base + i / 4) (omega arith) (omega arith))
+
+  pub end-kept : (count plain i : ℕ) → count ≤ 256 → endAt w' base count plain i ≡ endAt w base count plain i
+  unfolding endAt
+  end-kept count plain i h = go (ltb (i + 1) count) refl
+    where
+      go : (t : Bool) → ltb (i + 1) count ≡ t → cond (ltb (i + 1) count) (startAt w' base (i + 1)) plain ≡ cond (ltb (i + 1) count) (startAt w base (i + 1)) plain
+      go true e = ap (λ (x : ℕ). cond (ltb (i + 1) count) x plain) (start-kept (i + 1) (omega (arith, ltb-true (i + 1) count e)))
+      go false e = rw e
+
+  pub related-kept : (t j : ℕ) → t < 256 → related w' base t j ≡ related w base t j
+  unfolding related
+  related-kept t j h = ap (λ (s : List ℕ). inSet s j) (row-same w w' base t (b .long) (λ q l. b .words (base + 4 * t + q) (omega arith) (omega arith)))
+
+  pub room-kept : {acc : ℕ} → Room w base acc → Room w' base acc
+  room-kept r = record { block = omega (arith, r .block, b .long); rows = omega (arith, r .rows, b .long); apart = r .apart }
+
+  pub starts-kept : {count plain : ℕ} → Starts w base count plain → Starts w' base count plain
+  starts-kept s = record { few = s .few; less = s .less; each = λ c h. omega (arith, start-kept c (omega (arith, s .few)), s .each c h) }
+
+  pub among-kept : (from to p j : ℕ) → to ≤ 2048 → Among w' base from to p j ↔ Among w base from to p j
+  among-kept from to p j h = (
+    λ a. let g = a .high in
+        let e = arc-kept (a .at) (omega arith) in
+        record {
+          at = a .at;
+          low = a .low;
+          high = a .high;
+          letter = ap (λ (x : ℕ). x / 256) (sym e) ∙ a .letter;
+          leads = subst T (related-kept (field w (arcsAt base) (a .at) % 256) j (omega arith)) (subst (λ (x : ℕ). T (related w' base (x % 256) j)) e (a .leads));
+        },
+    λ a. let g = a .high in
+        let e = arc-kept (a .at) (omega arith) in
+        record {
+          at = a .at;
+          low = a .low;
+          high = a .high;
+          letter = ap (λ (x : ℕ). x / 256) e ∙ a .letter;
+          leads = subst (λ (x : ℕ). T (related w' base (x % 256) j)) (sym e) (subst T (sym (related-kept (field w (arcsAt base) (a .at) % 256) j (omega arith))) (a .leads));
+        },
+  )
+
+  pub held-kept : {count letters plain : ℕ} {arcs : List PlainArc} → Starts w base count plain → Held count letters arcs w base plain → Held count letters arcs w' base plain
+  held-kept {count} {plain = plain} s held = record {
+    within = held .within;
+    covers = λ i l j h g.
+        rw (start-kept i (omega (arith, s .few)), end-kept count plain i (s .few))
+        (iff-trans (among-kept (startAt w base i) (endAt w base count plain i) l j (end-few i s)) (held .covers i l j h g));
+  }

@@ -1,0 +1,10 @@
+pub mod LetterSets
+pub mod BlockFrame
+pub mod Visiting
+pub mod Onward
+pub mod PlainPlaces
+pub mod Building
+pub mod FinalLaws
+pub mod WordSteps
+pub mod Judging
+pub mod Promise

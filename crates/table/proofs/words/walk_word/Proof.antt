@@ -1,0 +1,87 @@
+-- `table::words::walk_word` meets its contract. The loop's invariant: what is left of the word leads from the set where the whole
+-- word leads from the first one (Walking of proofs/WordSteps.antt).
+use borrow.Author.Needs.{needs}
+use mathlib.Core.Path.{_∙_, _≡_, sym}
+use Prim.Native.Nat.{_-_}
+use native.Mathlib.Omega.{arith}
+use lib.ListN.{getD, length}
+use Rattle.format.specs.Decoding.{decoded}
+use Rattle.format.specs.Letters.{letterNumber}
+use Rattle.format.specs.Reading.{letterBytes}
+use Rattle.format.specs.declared.letters.Letter.the-variants.{At}
+use Rattle.format.proofs.Steps.{letters-length}
+use Rattle.table.proofs.BlockFrame.{block-kept, room-kept, starts-kept}
+use Rattle.table.proofs.WordSteps.{Walking, letter-lt, walking-end, walking-foreign, walking-more, walking-start}
+use Rattle.table.proofs.words.walk_word.Statement.{statement}
+use Rattle.table.proofs.words.walk_word.Tie as tie
+
+abbrev Inv-loop : tie.InvT-loop
+Inv-loop file c word w₀ base count plain set₀ i₀ w set i = Walking (decoded c file) word w₀ base count plain set₀ w set i
+
+abbrev μ-loop : tie.MeasureT-loop
+μ-loop file c word w₀ base count plain set₀ i₀ w set i = length word - i
+
+loop-holds : tie.Need-loop-holds Inv-loop μ-loop
+loop-holds c = walking-start _ _ _ _ _ _ _
+
+same-length : tie.Need-same-length Inv-loop μ-loop
+same-length c = c .before .before .before .before .before .loop .inv .kept .long
+
+returns : tie.Need-returns Inv-loop μ-loop
+unfolding decoded
+returns c =
+    let n = c .before .before in
+    let l = n .before .before .before in
+    (l .loop .inv .kept, walking-foreign (l .loop .inv) (n .before .before .loop-test .taken) (sym (n .letter-number .ensures) ∙ c .enum-told .given .1))
+
+-- the letter that is found
+letter : (c : tie.After-l Inv-loop μ-loop) → let l = c .before .before .before .before .before in let a = l .before .before .before .before .args in
+    letterNumber (getD (a .word .now) (l .loop .i) 0) (letterBytes (a .c) (a .file .now)) ≡ At (c .l .given .0 .0)
+letter c = sym (c .before .before .letter-number .ensures) ∙ c .l .given .1
+
+step-letter-requires : tie.Need-step-letter-requires Inv-loop μ-loop
+step-letter-requires c κs =
+    let f = c .before .before in
+    let l = f .before .before .before .before .before in
+    let s = l .before .before .before .before in
+    let p = s .pre in
+    let same = block-kept (l .loop .inv .kept) (p .1 .1 .0 .apart) in
+    (omega (arith, letter-lt _ _ _ (letter f), letters-length (s .args .c) (s .args .file .now) (p .1 .0), p .0), (room-kept same (p .1 .1 .0), starts-kept same (p .1 .1 .1)))
+
+loop-again : tie.Need-loop-again Inv-loop μ-loop
+unfolding decoded
+loop-again c =
+    let s = c .before .before in
+    let f = s .before .before .before in
+    let i = f .before .before .before .before in
+    let l = i .before in
+    let b = l .before .before .before .before in
+    let p = b .pre in
+    walking-more (l .loop .inv) (p .1 .1 .0) (p .1 .1 .1) (omega (arith, letters-length (b .args .c) (b .args .file .now) (p .1 .0), p .0)) (i .loop-test .taken) (letter f) (s .step-letter .ensures .0) (s .step-letter .ensures .1)
+
+same-length-2 : tie.Need-same-length-2 Inv-loop μ-loop
+same-length-2 c = c .before .loop .inv .kept .long
+
+returns-2 : tie.Need-returns-2 Inv-loop μ-loop
+returns-2 c = let l = c .before in (l .loop .inv .kept, walking-end (l .loop .inv) (c .loop-test .left))
+
+pub walk-word-spec : {M : Type 1} → statement M
+walk-word-spec =
+    tie.close
+    (tie.spec
+    Inv-loop
+    μ-loop
+    loop-holds
+    (λ c. omega arith)
+    (λ c κs. omega arith)
+    (λ c. search needs)
+    (λ c. search needs)
+    same-length
+    returns
+    (λ c. search needs)
+    step-letter-requires
+    (λ c. omega arith)
+    (λ c. omega arith)
+    loop-again
+    same-length-2
+    returns-2)

@@ -1,0 +1,4 @@
+pub mod Stepping
+pub mod Finals
+pub mod Words
+pub mod Membership

@@ -1,0 +1,57 @@
+-- Stepping: what the words of a block stand for once its rows are closed, and the live sets of all letters that a step leaves.
+-- Where a block has its rows, its plain arcs and their starts is said in crate explore, specs/Map.antt.
+use mathlib.Core.Path.{_≡_}
+use mathlib.Core.Logic.{_↔_, _⊎_}
+use mathlib.Core.Bool.{cond}
+use mathlib.Core.List.{List, [], _∷_, List·Memᴰ}
+use mathlib.Core.Option.{some}
+use Prim.Native.Nat.{ℕ, _+_, _/_, _%_, _≤_, _<_}
+use lib.Dec.{T, ltb}
+use lib.ListN.{length}
+use Rattle.automata.specs.Automaton.{Run}
+use Rattle.automata.specs.Live.{Moves, PlainArc}
+use Rattle.explore.specs.Map.{arcsAt, blockEnd, startsAt}
+use Rattle.memory.specs.Fields.{field}
+use Rattle.sets.specs.Sets.{bit}
+use Rattle.sets.specs.Rows.{related, row}
+
+-- the set of letter l: row l from acc on where the mask `met` has l, else the empty set
+unfoldable pub setOf : List ℕ → ℕ → ℕ → ℕ → List ℕ
+unfolding bit row
+setOf w acc met l = cond (bit met l) (row w acc l) (0 ∷ 0 ∷ 0 ∷ 0 ∷ [])
+
+-- where the listed arcs of configuration c start, and where they end, of `count` configurations and `plain` arcs
+unfoldable pub startAt : List ℕ → ℕ → ℕ → ℕ
+unfolding field
+startAt w base c = field w (startsAt base) c
+
+unfoldable pub endAt : List ℕ → ℕ → ℕ → ℕ → ℕ → ℕ
+unfolding startAt
+endAt w base count plain c = cond (ltb (c + 1) count) (startAt w base (c + 1)) plain
+
+-- among the arcs listed from `from` to before `to` one with letter l has j in the row of its target
+pub record Among (w : List ℕ) (base from to l j : ℕ) : Type 0 where
+  pub at : ℕ
+  pub low : from ≤ at
+  pub high : at < to
+  pub letter : field w (arcsAt base) at / 256 ≡ l
+  pub leads : T (related w base (field w (arcsAt base) at % 256) j)
+
+-- the block stands for n configurations with these plain arcs: what is listed of configuration s by a letter leads where a plain arc
+-- of s with that letter, and then a run of empty moves, does
+pub record Held (n letters : ℕ) (arcs : List PlainArc) (w : List ℕ) (base plain : ℕ) : Type 0 where
+  pub within : (a : PlainArc) → List·Memᴰ a arcs → a .target < n
+  pub covers : (s l j : ℕ) → s < n → l < letters → Among w base (startAt w base s) (endAt w base n plain s) l j ↔ ((t : ℕ) × Moves arcs s (some l) t × Run (Moves arcs) t [] j)
+
+-- ---- what a step asks of the words, whatever they stand for
+-- the block and the 64 rows from acc on are there, and share no word
+pub record Room (w : List ℕ) (base acc : ℕ) : Type 0 where
+  pub block : blockEnd base ≤ length w
+  pub rows : acc + 256 ≤ length w
+  pub apart : (acc + 256 ≤ base) ⊎ (blockEnd base ≤ acc)
+
+-- the starts and the end of the listed arcs are places of the list
+pub record Starts (w : List ℕ) (base count plain : ℕ) : Type 0 where
+  pub few : count ≤ 256
+  pub less : plain ≤ 2048
+  pub each : (c : ℕ) → c < count → startAt w base c ≤ 2048

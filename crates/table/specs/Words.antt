@@ -1,0 +1,48 @@
+-- Words: a built block, and the live set of a word of bytes (document 01, 'Runs and slips').
+use mathlib.Core.Path.{_≡_}
+use mathlib.Core.Logic.{_↔_}
+use mathlib.Core.Bool.{Bool, false}
+use mathlib.Core.List.{List, [], map}
+use Prim.Native.Nat.{_<_, _≤_, ℕ}
+use lib.Dec.{T}
+use lib.ListN.{drop, length, take}
+use Rattle.automata.specs.Automaton.{Automaton, Run, WellFormed, letters}
+use Rattle.automata.specs.Live.{Moves, liveFrom, table}
+use Rattle.automata.specs.Unfolding.{configurations, plainArcs, spelledOr}
+use Rattle.automata.specs.Words.{spelling}
+use Rattle.explore.specs.Map.{configs, mapEnd}
+use Rattle.explore.specs.Packed.{pack}
+use Rattle.format.specs.Decoding.{decoded}
+use Rattle.format.specs.Placed.{Lies}
+use Rattle.format.specs.Reading.{firstArc}
+use Rattle.format.specs.declared.Counts.{Counts}
+use Rattle.sets.specs.Rows.{related}
+use Rattle.table.specs.Stepping.{Held, Room, Starts}
+
+-- where the sets of the letters stand
+abbrev pub letterSets : ℕ
+letterSets = 4480
+
+-- x has k configurations, at most L; the words hold them, the closed rows of its block, and, where they fit, its p plain arcs
+pub record Built (x : Automaton) (L : ℕ) (w : List ℕ) (base k p : ℕ) : Type 0 where
+  pub many : k ≡ length (configurations x L)
+  pub ended : k ≤ L
+  pub configured : take k (drop configs w) ≡ map pack (configurations x L)
+  pub rows : (i j : ℕ) → i < k → T (related w base i j) ↔ Run (Moves (plainArcs x L)) i [] j
+  pub held : p ≤ 2048 → Held k (letters x) (plainArcs x L) w base p
+  pub starts : p ≤ 2048 → Starts w base k p
+
+-- the live set of a word of bytes, from the set S of the k configurations on: empty where a byte is no letter
+unfoldable pub liveBytes : Automaton → ℕ → ℕ → List Bool → List ℕ → List Bool
+liveBytes x L k S word = spelledOr (table k (λ _. false)) (liveFrom k (plainArcs x L) S) (spelling (x .alphabet) word)
+
+-- a word can be judged: the arcs stand whole in the file, whose automaton is well formed and built, with at most 2,048 plain arcs; and
+-- there is room for the sets of the letters
+pub record Ready (file : List ℕ) (c : Counts) (w : List ℕ) (base k p : ℕ) : Type 0 where
+  pub few-letters : c .letters ≤ 64
+  pub lies : Lies (c .registers) (c .arcs) (firstArc c) file
+  pub formed : WellFormed (decoded c file)
+  pub built : Built (decoded c file) 256 w base k p
+  pub few-plain : p ≤ 2048
+  pub above : mapEnd ≤ base
+  pub room : Room w base letterSets

@@ -1,0 +1,96 @@
+// Words: the live set of a word of bytes, over a built block.
+ghost use mathlib.Core.Path.{_≡_};
+ghost use mathlib.Core.List.{List};
+ghost use Prim.Native.Nat.{ℕ, _+_, _≤_, _<_};
+ghost use lib.ListN.{length};
+ghost use Rattle.automata.specs.Live.{PlainArc, byLetter};
+ghost use Rattle.format.specs.Decoding.{decoded};
+ghost use Rattle.memory.specs.Frame.{Kept};
+ghost use Rattle.sets.specs.Sets.{view, Within};
+ghost use Rattle.table.specs.Stepping.{Held, Room, Starts};
+ghost use Rattle.table.specs.Words.{letterSets, Built, Ready, liveBytes};
+ghost use Rattle.table.specs.Membership.{judged};
+use super::Membership;
+use super::finals::final_set;
+use super::stepping::set_of;
+use super::stepping::step;
+use format::Counts;
+use format::letters::Letter;
+
+// Where the sets of the letters stand.
+const LETTER_SETS: usize = 4480;
+
+// The live set after the letter l.
+// Cost: one row for each arc of a live configuration.
+fn step_letter(
+    w: &mut [u64],
+    base: usize,
+    count: usize,
+    plain: usize,
+    set: [u64; 4],
+    l: usize,
+) -> [u64; 4]
+    requires { ⌜ (l < 64) × (Room (now w) base letterSets × Starts (now w) base count plain) ⌝ }
+    ensures kept { λ _. ⌜ Kept letterSets (letterSets + 256) (now (w .entry)) (now (w .exit)) ⌝ }
+    ensures set { λ r. ⌜ ((letters : ℕ) (arcs : List PlainArc) → Held count letters arcs (now (w .entry)) base plain → letters ≤ 64 → Within count set → l < letters
+        → (view count r ≡ byLetter count arcs (view count set) l) × Within count r) ⌝ }
+{
+    let met = step(w, base, LETTER_SETS, count, plain, set);
+    set_of(w, LETTER_SETS, met, l)
+}
+
+// The live set of a word, from the set `from` on, of the automaton whose file has the counts c; empty where a byte is no letter.
+// Cost: for each byte, one row for each arc of a live configuration, and at most one look at each letter.
+pub fn walk_word(
+    file: &[u8],
+    c: Counts,
+    word: &[u8],
+    w: &mut [u64],
+    base: usize,
+    count: usize,
+    plain: usize,
+    from: [u64; 4],
+) -> [u64; 4]
+    requires { ⌜ (c .letters ≤ 64) × ((12 + c .letters ≤ length (now file)) × (Room (now w) base letterSets × Starts (now w) base count plain)) ⌝ }
+    ensures kept { λ _. ⌜ Kept letterSets (letterSets + 256) (now (w .entry)) (now (w .exit)) ⌝ }
+    ensures set { λ r. ⌜ ((L : ℕ) → Built (decoded c (now (file .entry))) L (now (w .entry)) base count plain → Within count from
+        → (view count r ≡ liveBytes (decoded c (now (file .entry))) L count (view count from) (now (word .entry))) × Within count r) ⌝ }
+{
+    let mut set = from;
+    let mut i: usize = 0;
+    while i < word.len() {
+        let Letter::At(l) = format::letters::letter_number(c, file, word[i]) else {
+            return [0; 4];
+        };
+        let next = step_letter(w, base, count, plain, set, l as usize);
+        set = next;
+        i += 1;
+    }
+    set
+}
+
+// Does the automaton of the file accept the word, and how many configurations are live after it? Its block is built already.
+// Cost: that of the walk over the word, and one look at each configuration.
+pub fn judge_word(
+    file: &[u8],
+    c: Counts,
+    word: &[u8],
+    w: &mut [u64],
+    base: usize,
+    count: usize,
+    plain: usize,
+) -> Membership
+    requires { ⌜ Ready (now file) c (now w) base count plain ⌝ }
+    ensures kept { λ _. ⌜ Kept letterSets (letterSets + 256) (now (w .entry)) (now (w .exit)) ⌝ }
+    ensures answer { λ r. ⌜ r ≡ judged 256 (decoded c (now (file .entry))) (now (word .entry)) ⌝ }
+{
+    let finals = final_set(file, c, w, count);
+    let start = sets::rows::load(w, base, 0);
+    let live = walk_word(file, c, word, w, base, count, plain, start);
+    let many = sets::size(live) as u64;
+    if sets::meets(live, finals) {
+        Membership::Accepted(many)
+    } else {
+        Membership::Rejected(many)
+    }
+}
