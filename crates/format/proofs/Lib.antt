@@ -1,13 +1,17 @@
-pub mod Tests
-pub mod LetterLaws
-pub mod Steps
-pub mod Seen
-pub mod Fitting
-pub mod ArcLaws
+-- what callers may rely on: read this first
+pub mod Promise
+pub mod Examples
+-- the laws behind it
 pub mod ValidLaws
 pub mod EncodingLaws
 pub mod CanonicalLaws
 pub mod RefusalLaws
+pub mod FrontLaws
 pub mod ByteLaws
-pub mod Examples
-pub mod Promise
+pub mod ArcLaws
+pub mod Fitting
+-- what the functions' proofs go by
+pub mod Seen
+pub mod Steps
+pub mod Tests
+pub mod LetterLaws

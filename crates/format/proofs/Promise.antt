@@ -2,11 +2,12 @@
 -- `read` answers `readingOf` of the file (specs/Reading.antt): its contract is that equation.
 use mathlib.Core.Path.{_≡_, refl, sym, ap, _∙_, subst}
 use mathlib.Core.Logic.{_↔_, _≢_}
-use mathlib.Core.List.{List}
-use Prim.Native.Nat.{ℕ, _≤_}
+use mathlib.Core.List.{List, _++_}
+use Prim.Native.Nat.{ℕ, _≤_, _<_}
 use native.Mathlib.Omega.{arith}
 use borrow.Author.Tests.{leb-true}
 use lib.Dec.{leb}
+use lib.ListN.{length}
 use Rattle.automata.specs.Automaton.{Automaton, WellFormed}
 use Rattle.format.specs.declared.Counts.{Counts}
 use Rattle.format.specs.declared.Reading.{Reading}
@@ -17,6 +18,7 @@ use Rattle.format.specs.Encoding.{sizes, bytesOf}
 use Rattle.format.specs.Limits.{Fits, Bytes}
 use Rattle.format.proofs.Tests.{and-both}
 use Rattle.format.proofs.RefusalLaws.{FirstFails, refused-first, first-refused, refused-number, Known, tests-known}
+use Rattle.format.proofs.FrontLaws.{shorter-refused, longer-refused}
 use Rattle.format.proofs.ValidLaws.{valid-sizes, valid-fits, valid-wellFormed}
 use Rattle.format.proofs.EncodingLaws.{bytes-valid, bytes-back}
 use Rattle.format.proofs.CanonicalLaws.{valid-bytes}
@@ -50,6 +52,14 @@ number-range s n e =
 pub number-exactly : (s : List ℕ) (n : ℕ) → (readingOf s ≡ Refused n) ↔ FirstFails n (fileTests s)
 unfolding readingOf
 number-exactly s n = (refused-first (fileTests s) (countsOf s), first-refused (fileTests s) (countsOf s))
+
+-- A valid file of which the end is missing is refused with 1 ..
+pub cut-short : (s t : List ℕ) (c : Counts) → 0 < length t → readingOf (s ++ t) ≡ Valid c → readingOf s ≡ Refused 1
+cut-short s t c more e = shorter-refused t more s c e
+
+-- .. and one with bytes after it with 9.
+pub bytes-after : (s t : List ℕ) (c : Counts) → 0 < length t → readingOf s ≡ Valid c → readingOf (s ++ t) ≡ Refused 9
+bytes-after s t c more e = longer-refused t more s c e
 
 -- The automaton of a valid file is well-formed, and has the counts that reading answers.
 pub valid-automaton : (s : List ℕ) (c : Counts) → readingOf s ≡ Valid c → WellFormed (automatonOf s) × (sizes (automatonOf s) ≡ c)

@@ -1,0 +1,177 @@
+-- FrontLaws: a test sees no further than the part that it looks at, so a valid file that is cut short is refused with 1, and one
+-- with bytes after it with 9.
+use mathlib.Core.Path.{_≡_, refl, sym, ap, _∙_, subst}
+use mathlib.Core.Bool.{Bool, true, false, _&&_}
+use mathlib.Core.List.{List, [], _∷_, _++_}
+use Prim.Native.Nat.{ℕ, zero, suc, _+_, _*_, _≤_, _<_}
+use native.Mathlib.Omega.{arith}
+use borrow.Author.Tests.{leb-true, le-leb, lt-leb}
+use lib.Dec.{leb}
+use lib.ListN.{length, getD, drop, length-drop, length-append, List·getD-append}
+use lib.Seq.{take-append-le, drop-append-le}
+use Rattle.format.specs.declared.Counts.{Counts}
+use Rattle.format.specs.declared.Reading.the-variants.{Valid, Refused}
+use Rattle.format.specs.Reading.{two, marked, countsOf, part, ascending, firstArc, flags, wellFields, wellOp, wellOps, arcSize, arcTests, arcsTests, headerTests, bodyTests, firstFault, readingOf}
+use Rattle.format.specs.Limits.{Ranges}
+use Rattle.automata.proofs.ListLaws.{each-split}
+use Rattle.format.proofs.Tests.{Holds, Hold, hold-valid}
+use Rattle.format.proofs.Seen.{HeaderSeen, seen-header, after-header, ArcSeen, arc-seen}
+use Rattle.format.proofs.ValidLaws.{FileSeen, file-seen}
+
+module _ (t : List ℕ) (more : 0 < length t) where
+  -- ---- what stands in front of t is the same
+  part-front : (at size : ℕ) (s : List ℕ) → at + size ≤ length s → part at size (s ++ t) ≡ part at size s
+  part-front at size s h = rw (drop-append-le at s t (omega arith)) (take-append-le size (drop at s) t (simp length-drop (omega arith)))
+
+  fields-front : (c : Counts) (l : List ℕ) → 4 ≤ length l → wellFields c (l ++ t) ≡ wellFields c l
+  fields-front c l h =
+      let f : (i : ℕ) → i < length l → getD (l ++ t) i 0 ≡ getD l i 0 = List·getD-append l t 0 in
+      rw (f 0 (omega arith), f 1 (omega arith), f 2 (omega arith), f 3 (omega arith))
+
+  size-front : (l : List ℕ) → 4 ≤ length l → arcSize (l ++ t) ≡ arcSize l
+  size-front l h = ap (λ p. 4 + 2 * p) (List·getD-append l t 0 3 (omega arith))
+
+  ops-front : (c : Counts) (p : ℕ) (l : List ℕ) → 2 * p ≤ length l → wellOps c p (l ++ t) ≡ wellOps c p l
+  unfolding wellOps
+  ops-front c zero l h = refl
+  ops-front c (suc p) [] h = absurd (omega arith)
+  ops-front c (suc p) (x ∷ []) h = absurd (omega arith)
+  ops-front c (suc p) (x ∷ y ∷ l) h = ap (λ b. wellOp c x y && b) (ops-front c p l (omega arith))
+
+  rest-front : (l : List ℕ) → 4 ≤ length l → arcSize l ≤ length l → drop (arcSize (l ++ t)) (l ++ t) ≡ drop (arcSize l) l ++ t
+  rest-front l h k = rw (size-front l h) (drop-append-le (arcSize l) l t k)
+
+  arc-ops : (c : Counts) (l : List ℕ) → 4 ≤ length l → arcSize l ≤ length l → wellOps c (getD (l ++ t) 3 0) (drop 4 (l ++ t)) ≡ wellOps c (getD l 3 0) (drop 4 l)
+  arc-ops c l h k =
+      rw (List·getD-append l t 0 3 (omega arith), drop-append-le 4 l t h) (ops-front c (getD l 3 0) (drop 4 l) (simp length-drop (omega arith)))
+
+  -- ---- arcs
+  module _ (c : Counts) where
+    arcs-after : (m : ℕ) (l : List ℕ) → Hold (arcsTests m c l) → firstFault (arcsTests m c (l ++ t)) c ≡ Refused 9
+    unfolding arcsTests firstFault
+    arcs-after zero l h = rw (lt-leb (length (l ++ t)) 0 (omega (arith, length-append l t)))
+    arcs-after (suc m) l h =
+        let q = each-split Holds (arcTests c l) (arcsTests m c (drop (arcSize l) l)) h in
+        let a = arc-seen c l (q .0) in
+        let four : 4 ≤ length l = omega (arith, a .whole) in
+        let n = length-append l t in
+        let size = size-front l four in
+        rw (
+          le-leb 4 (length (l ++ t)) (omega arith),
+          fields-front c l four ∙ a .fields,
+          le-leb (arcSize (l ++ t)) (length (l ++ t)) (omega (arith, a .whole)),
+          arc-ops c l four (a .whole) ∙ a .ops,
+          rest-front l four (a .whole),
+        ) (arcs-after m (drop (arcSize l) l) (q .1))
+
+    arcs-cut : (m : ℕ) (l : List ℕ) → Hold (arcsTests m c (l ++ t)) → firstFault (arcsTests m c l) c ≡ Refused 1
+    unfolding arcsTests firstFault
+    arcs-cut zero l h = absurd (omega (arith, leb-true (length (l ++ t)) 0 (h .0), length-append l t))
+    arcs-cut (suc m) l h = first (arcs-cut m (drop (arcSize l) l)) (leb 4 (length l)) refl
+      where
+        Cut : Type 0
+        Cut = firstFault (arcsTests (suc m) c l) c ≡ Refused 1
+
+        Further : Type 0
+        Further = Hold (arcsTests m c (drop (arcSize l) l ++ t)) → firstFault (arcsTests m c (drop (arcSize l) l)) c ≡ Refused 1
+
+        q : Hold (arcTests c (l ++ t)) × Hold (arcsTests m c (drop (arcSize (l ++ t)) (l ++ t)))
+        q = each-split Holds (arcTests c (l ++ t)) (arcsTests m c (drop (arcSize (l ++ t)) (l ++ t))) h
+
+        a : ArcSeen c (l ++ t)
+        a = arc-seen c (l ++ t) (q .0)
+
+        second : Further → 4 ≤ length l → (b : Bool) → leb (arcSize l) (length l) ≡ b → Cut
+        second further four false e = rw (le-leb 4 (length l) four, sym (fields-front c l four) ∙ a .fields, e)
+        second further four true e =
+            let k = leb-true _ _ e in
+            rw (le-leb 4 (length l) four, sym (fields-front c l four) ∙ a .fields, e, sym (arc-ops c l four k) ∙ a .ops)
+            (further (subst (λ r. Hold (arcsTests m c r)) (rest-front l four k) (q .1)))
+
+        first : Further → (b : Bool) → leb 4 (length l) ≡ b → Cut
+        first further false e = rw e
+        first further true e = second further (leb-true _ _ e) (leb (arcSize l) (length l)) refl
+
+  -- ---- the file
+  module _ (s : List ℕ) where
+    abbrev longer : List ℕ
+    longer = s ++ t
+
+    more-bytes : length longer ≡ length s + length t
+    more-bytes = length-append s t
+
+    front : (i : ℕ) → i < length s → getD longer i 0 ≡ getD s i 0
+    front = List·getD-append s t 0
+
+    counts-front : 12 ≤ length s → countsOf longer ≡ countsOf s
+    counts-front h = rw (front 5 (omega arith), front 6 (omega arith), front 7 (omega arith), front 8 (omega arith), front 9 (omega arith), front 10 (omega arith), front 11 (omega arith))
+
+    mark-front : 12 ≤ length s → marked longer ≡ marked s
+    mark-front h = rw (front 0 (omega arith), front 1 (omega arith), front 2 (omega arith))
+
+    version-front : 12 ≤ length s → two longer 3 ≡ two s 3
+    version-front h = rw (front 3 (omega arith), front 4 (omega arith))
+
+    pub longer-refused : (c : Counts) → readingOf s ≡ Valid c → readingOf longer ≡ Refused 9
+    unfolding firstFault
+    longer-refused c e =
+        after-header longer (hold-valid (headerTests longer) (countsOf longer) (seen-header longer header) ∙ ap Valid (counts-front (f .header .twelve) ∙ f .counts))
+        ∙ rw (
+          le-leb (12 + c .letters) (length longer) (omega (arith, f .there, more-bytes)),
+          ap ascending (part-front 12 (c .letters) s (omega (arith, f .there))) ∙ f .rising,
+          le-leb (firstArc c) (length longer) (omega (arith, f .there, more-bytes)),
+          ap flags (part-front (12 + c .letters) (c .states) s (f .there)) ∙ f .flags,
+          drop-append-le (firstArc c) s t (f .there),
+        ) (arcs-after c (c .arcs) (drop (firstArc c) s) (f .arcs))
+      where
+        f : FileSeen c s
+        f = file-seen s c e
+
+        header : HeaderSeen longer
+        header =
+            let h = f .header .twelve in
+            record {
+              twelve = omega (arith, h, more-bytes);
+              mark = mark-front h ∙ f .header .mark;
+              version = version-front h ∙ f .header .version;
+              ranges = subst (λ (d : Counts). Ranges d) (sym (counts-front h)) (f .header .ranges);
+            }
+
+    pub shorter-refused : (c : Counts) → readingOf longer ≡ Valid c → readingOf s ≡ Refused 1
+    unfolding readingOf firstFault
+    shorter-refused c e = start (leb 12 (length s)) refl
+      where
+        f : FileSeen c longer
+        f = file-seen longer c e
+
+        header : 12 ≤ length s → HeaderSeen s
+        header h = record {
+          twelve = h;
+          mark = sym (mark-front h) ∙ f .header .mark;
+          version = sym (version-front h) ∙ f .header .version;
+          ranges = subst (λ (d : Counts). Ranges d) (counts-front h) (f .header .ranges);
+        }
+
+        Cut : Type 0
+        Cut = firstFault (bodyTests c s) c ≡ Refused 1
+
+        arcs : firstArc c ≤ length s → Hold (arcsTests (c .arcs) c (drop (firstArc c) s ++ t))
+        arcs h = subst (λ l. Hold (arcsTests (c .arcs) c l)) (drop-append-le (firstArc c) s t h) (f .arcs)
+
+        to-arcs : 12 + c .letters ≤ length s → (b : Bool) → leb (firstArc c) (length s) ≡ b → Cut
+        to-arcs h false g = rw (le-leb (12 + c .letters) (length s) h, sym (ap ascending (part-front 12 (c .letters) s h)) ∙ f .rising, g)
+        to-arcs h true g =
+            let k = leb-true _ _ g in
+            rw (le-leb (12 + c .letters) (length s) h, sym (ap ascending (part-front 12 (c .letters) s h)) ∙ f .rising, g, sym (ap flags (part-front (12 + c .letters) (c .states) s k)) ∙ f .flags)
+            (arcs-cut c (c .arcs) (drop (firstArc c) s) (arcs k))
+
+        to-flags : (b : Bool) → leb (12 + c .letters) (length s) ≡ b → Cut
+        to-flags false g = rw g
+        to-flags true g = to-arcs (leb-true _ _ g) (leb (firstArc c) (length s)) refl
+
+        start : (b : Bool) → leb 12 (length s) ≡ b → readingOf s ≡ Refused 1
+        start false g = rw g
+        start true g =
+            let h = leb-true _ _ g in
+            after-header s (hold-valid (headerTests s) (countsOf s) (seen-header s (header h)) ∙ ap Valid (sym (counts-front h) ∙ f .counts))
+            ∙ to-flags (leb (12 + c .letters) (length s)) refl
