@@ -1,13 +1,13 @@
 -- Finding: what is found in the table of configurations is the number that the walk gives, and what meeting one makes of the tables.
-use mathlib.Core.Path.{_∙_, _≡_, refl, sym}
-use Prim.Native.Nat.{_+_, _<_, _^_, _≤_, ℕ}
-use lib.Dec.{T, eqb}
-use lib.ListN.{drop, getD, getElem?, length, length-append, length-drop, length-take, take}
+use mathlib.Core.Path.{_∙_, _≡_}
+use Prim.Native.Nat.{_+_, _<_, _≤_, ℕ}
+use lib.Dec.{eqb}
+use lib.ListN.{drop, getD, getElem?, length, length-append, length-drop, length-take}
 use lib.Seq.{getD-drop, getD-take}
 use mathlib.Core.List.{List, [], _++_, _∷_}
 use mathlib.Core.Option.{Option, some}
 use native.Mathlib.Omega.{arith}
-use Rattle.automata.specs.Exploration.{Distinct, add, number}
+use Rattle.automata.specs.Exploration.{add, number}
 use Rattle.automata.specs.Live.{PlainArc}
 use Rattle.explore.specs.Map.{Placed, configs}
 use Rattle.explore.specs.Packed.{plainArc}

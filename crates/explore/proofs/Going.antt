@@ -1,24 +1,24 @@
 -- Going: the walk along the arcs of one configuration. What is left of the chain gives the whole.
-use mathlib.Core.Path.{_∙_, _≡_, ap, refl, sym, subst}
+use mathlib.Core.Path.{_∙_, _≡_, ap, refl}
 use mathlib.Core.Logic.{⊎-elim}
 use Prim.Native.Nat.{_%_, _*_, _+_, _/_, _<_, _^_, _≤_, ℕ}
 use lib.Dec.{eqb}
 use lib.ListN.{drop, getD, length}
 use lib.Seq.{drop-drop, getD-drop}
 use mathlib.Core.List.{List, [], _++_, _∷_, append-assoc, append-nil}
-use mathlib.Core.Option.{Option, none, some}
+use mathlib.Core.Option.{none}
 use native.Mathlib.Omega.{arith}
 use Rattle.automata.specs.Exploration.{add, addAll, number}
 use Rattle.automata.specs.Lists.{collect, prepend}
 use Rattle.automata.specs.Live.{PlainArc}
 use Rattle.explore.specs.Arcs.{ArcAt, Indexed, Linked, Walkable, placeOf}
 use Rattle.explore.specs.Map.{KeptBut, arcHeads, arcNexts, configs, mapEnd, offsets, startsAt}
-use Rattle.explore.specs.Packed.{Hop, hop, hopWith, hops, performPacked, plainArc, plainsOf, tos}
-use Rattle.explore.specs.Tables.{Configured, Counted, Tabled}
+use Rattle.explore.specs.Packed.{Hop, hop, hopWith, hopsIn, performPacked, plainArc, plainsOf, tos}
+use Rattle.explore.specs.Tables.{Configured, Counted, Met, MetAll, Tabled}
+use Rattle.explore.specs.declared.Explored.the-variants.{Tables, TooMany}
 use Rattle.explore.specs.declared.Outcome.{Outcome}
 use Rattle.explore.specs.declared.Outcome.the-variants.{Failed, Leaves}
 use Rattle.format.specs.Decoding.{letterOf}
-use Rattle.format.specs.Reading.{firstArc}
 use Rattle.format.specs.declared.Counts.{Counts}
 use Rattle.memory.specs.Chains.{last}
 use Rattle.memory.specs.Fields.{field}
@@ -41,34 +41,27 @@ left-start : {w : List ℕ} {base known plain : ℕ} (c : ℕ) (rest : List Hop)
 left-start c rest {all} {plains} t = record { all = all; plains = plains; tabled = t; makes = refl; lists = refl }
 
 -- the next hop is taken
-abbrev pub Took : List ℕ → List ℕ → ℕ → ℕ → ℕ → ℕ → ℕ → ℕ → Hop → Type 0
-Took w w′ base known plain k p c h =
-    (all : List ℕ) (plains : List PlainArc) → Tabled w base known plain all plains → Tabled w′ base k p (add eqb all (h .to)) (plains ++ plainArc c (h .letter) (number eqb (h .to) all) ∷ [])
-
-left-more : {w w′ : List ℕ} {base known plain k p c : ℕ} {h : Hop} {rest : List Hop} {whole : List ℕ} {list : List PlainArc} → Took w w′ base known plain k p c h
+left-more : {w w′ : List ℕ} {base known plain k p c : ℕ} {h : Hop} {rest : List Hop} {whole : List ℕ} {list : List PlainArc} → Met w w′ base known plain c (h .letter) (h .to) (Tables k p)
     → Left w base known plain c (h ∷ rest) whole list → Left w′ base k p c rest whole list
 unfolding addAll plainsOf
-left-more {c = c} {h = h} {rest = rest} took l = record {
+left-more {c = c} {h = h} {rest = rest} met l = record {
   all = add eqb (l .all) (h .to);
   plains = l .plains ++ plainArc c (h .letter) (number eqb (h .to) (l .all)) ∷ [];
-  tabled = took (l .all) (l .plains) (l .tabled);
+  tabled = met (l .all) (l .plains) (l .tabled);
   makes = l .makes;
   lists = append-assoc (l .plains) (plainArc c (h .letter) (number eqb (h .to) (l .all)) ∷ []) (plainsOf c (add eqb (l .all) (h .to)) rest) ∙ l .lists;
 }
 
-left-over : {w : List ℕ} {base known plain c : ℕ} {h : Hop} {rest : List Hop} {whole : List ℕ} {list : List PlainArc}
-    → ((all : List ℕ) (plains : List PlainArc) → Tabled w base known plain all plains → 256 < length (add eqb all (h .to))) → Left w base known plain c (h ∷ rest) whole list → 256 < length whole
+left-over : {w : List ℕ} (w′ : List ℕ) {base known plain c : ℕ} {h : Hop} {rest : List Hop} {whole : List ℕ} {list : List PlainArc}
+    → Met w w′ base known plain c (h .letter) (h .to) TooMany → Left w base known plain c (h ∷ rest) whole list → 256 < length whole
 unfolding addAll
-left-over {h = h} {rest = rest} many l = omega (arith, many (l .all) (l .plains) (l .tabled), addAll-length eqb (add eqb (l .all) (h .to)) (tos rest), ap length (l .makes))
+left-over w′ {h = h} {rest = rest} met l = omega (arith, met (l .all) (l .plains) (l .tabled), addAll-length eqb (add eqb (l .all) (h .to)) (tos rest), ap length (l .makes))
 
 left-end : {w : List ℕ} {base known plain c : ℕ} {whole : List ℕ} {list : List PlainArc} → Left w base known plain c [] whole list → Tabled w base known plain whole list
 unfolding addAll plainsOf
 left-end {w} {base} {known} {plain} l = rw (← l .makes, ← l .lists, append-nil (l .plains)) (l .tabled)
 
 -- ---- the arcs of configuration c, which is `own`, from the words w₀ on; entry j of their chain is next
-abbrev pub allHops : List ℕ → Counts → ℕ → List Hop
-allHops file n own = hops (n .arcs) (drop (firstArc n) file) own
-
 pub record Going (file w₀ : List ℕ) (n : Counts) (base c known₀ plain₀ own : ℕ) (w : List ℕ) (known plain j : ℕ) : Type 0 where
   pub kept : KeptBut configs mapEnd base (startsAt base) w₀ w
   pub more : known₀ ≤ known
@@ -78,7 +71,7 @@ pub record Going (file w₀ : List ℕ) (n : Counts) (base c known₀ plain₀ o
   pub here : j ≡ last (stateOf file w₀) (own / 2 ^ 32) upto
   pub room : plain + upto ≤ plain₀ + n .arcs
   pub left : (all : List ℕ) (plains : List PlainArc) → Tabled w₀ base known₀ plain₀ all plains
-      → Left w base known plain c (hopsOf file w₀ own (chosen (stateOf file w₀) (own / 2 ^ 32) upto)) (addAll eqb all (tos (allHops file n own))) (plains ++ plainsOf c all (allHops file n own))
+      → Left w base known plain c (hopsOf file w₀ own (chosen (stateOf file w₀) (own / 2 ^ 32) upto)) (addAll eqb all (tos (hopsIn n file own))) (plains ++ plainsOf c all (hopsIn n file own))
 
 module _ {file w₀ : List ℕ} {n : Counts} (base c known₀ plain₀ own : ℕ) where
   pub going-start : {j : ℕ} → Indexed n file w₀ → Linked n file w₀ → Configured w₀ known₀ → own / 2 ^ 32 < 256 → j ≡ field w₀ arcHeads (own / 2 ^ 32)
@@ -91,7 +84,7 @@ module _ {file w₀ : List ℕ} {n : Counts} (base c known₀ plain₀ own : ℕ
     few = omega arith;
     here = e ∙ l .head (own / 2 ^ 32) small;
     room = omega arith;
-    left = λ all plains t. rw (← hops-chosen n file w₀ own i) (left-start c (allHops file n own) t);
+    left = λ all plains t. rw (← hops-chosen n file w₀ own i) (left-start c (hopsIn n file own) t);
   }
 
 hop-at : (file : List ℕ) (at own : ℕ)
@@ -99,80 +92,90 @@ hop-at : (file : List ℕ) (at own : ℕ)
 unfolding hop
 hop-at file at own = rw (getD-drop at file 1 0, getD-drop at file 2 0, getD-drop at file 3 0, drop-drop 4 at file)
 
-module _ {file w₀ : List ℕ} {n : Counts} {base c known₀ plain₀ own : ℕ} {w : List ℕ} {known plain j : ℕ} (g : Going file w₀ n base c known₀ plain₀ own w known plain j)
-    (y : Walkable n file) (i : Indexed n file w₀) (l : Linked n file w₀) where
-  -- ---- a turn at entry j, whose arc is at `at`
-  module _ (less : j < n .arcs) {at : ℕ} (is : at ≡ placeOf w j) where
-    on : OnChain (stateOf file w₀) w₀ arcNexts (own / 2 ^ 32) (g .upto) j
-    on = on-chain l (omega (arith, y .lies .few)) (own / 2 ^ 32) (g .few) (g .here) less
+-- ---- a turn at entry j: its arc is at `at`, and the entry after it is j′
+pub record Turn (file w₀ : List ℕ) (n : Counts) (base c known₀ plain₀ own : ℕ) (w : List ℕ) (known plain j at j′ : ℕ) : Type 0 where
+  pub walkable : Walkable n file
+  pub indexed : Indexed n file w₀
+  pub linked : Linked n file w₀
+  pub going : Going file w₀ n base c known₀ plain₀ own w known plain j
+  pub less : j < n .arcs
+  pub is : at ≡ placeOf w j
+  pub next : j′ ≡ field w arcNexts j
 
-    place : at ≡ placeOf w₀ j
-    place = is ∙ field-same w₀ w offsets j (g .kept .below (offsets + j / 4) (omega (arith, y .lies .few)))
+module _ {file w₀ : List ℕ} {n : Counts} {base c known₀ plain₀ own : ℕ} {w : List ℕ} {known plain j at j′ : ℕ} (t : Turn file w₀ n base c known₀ plain₀ own w known plain j at j′) where
+  few : j < 2048
+  few = omega (arith, t .less, t .walkable .lies .few)
 
-    -- the arc stands whole in the file
-    pub arc-here : ArcAt file at
-    arc-here = rw place (entry-at w₀ y i j less)
+  on : OnChain (stateOf file w₀) w₀ arcNexts (own / 2 ^ 32) (t .going .upto) j
+  on = on-chain (t .linked) (omega (arith, t .walkable .lies .few)) (own / 2 ^ 32) (t .going .few) (t .going .here) (t .less)
 
-    -- it has p operations, and the next entry is j′
-    module _ {p j′ : ℕ} (size : p ≡ getD file (at + 3) 0) (next : j′ ≡ field w arcNexts j) where
-      onward : j′ ≡ last (stateOf file w₀) (own / 2 ^ 32) j
-      onward = next ∙ field-same w₀ w arcNexts j (g .kept .below (arcNexts + j / 4) (omega (arith, y .lies .few))) ∙ on .onward
+  place : at ≡ placeOf w₀ j
+  place = t .is ∙ field-same w₀ w offsets j (t .going .kept .below (offsets + j / 4) (omega (arith, few)))
 
-      pub going-less : (j′ + 1) % 65536 < (j + 1) % 65536
-      going-less = ⊎-elim (λ d. omega (arith, onward, d, y .lies .few)) (λ d. omega (arith, onward, d .0, y .lies .few)) (last-is (stateOf file w₀) (own / 2 ^ 32) j)
+  -- the arc stands whole in the file
+  pub arc-here : ArcAt file at
+  arc-here = rw place (entry-at w₀ (t .walkable) (t .indexed) j (t .less))
 
-      -- what the arc makes of the configuration comes first
-      abbrev outcome : Outcome
-      outcome = performPacked p (drop (at + 4) file) (own % 2 ^ 32)
+  onward : j′ ≡ last (stateOf file w₀) (own / 2 ^ 32) j
+  onward = t .next ∙ field-same w₀ w arcNexts j (t .going .kept .below (arcNexts + j / 4) (omega (arith, few))) ∙ on .onward
 
-      unroll : hopsOf file w₀ own (chosen (stateOf file w₀) (own / 2 ^ 32) (g .upto))
-          ≡ prepend (hopWith outcome (letterOf (getD file (at + 1) 0)) (getD file (at + 2) 0)) (hopsOf file w₀ own (chosen (stateOf file w₀) (own / 2 ^ 32) j))
-      unfolding collect
-      unroll = rw (chosen-on (stateOf file w₀) (own / 2 ^ 32) (g .upto) j (on .below) (on .keyed) (on .none), ← place, hop-at file at own, size)
+  pub going-less : (j′ + 1) % 65536 < (j + 1) % 65536
+  going-less = ⊎-elim (λ d. omega (arith, onward, d, few)) (λ d. omega (arith, onward, d .0, few)) (last-is (stateOf file w₀) (own / 2 ^ 32) j)
 
-      -- the arc fails
-      pub going-failed : outcome ≡ Failed → Going file w₀ n base c known₀ plain₀ own w known plain j′
-      going-failed f = record {
-        kept = g .kept;
-        more = g .more;
-        configured = g .configured;
+  -- it has p operations: what they make of the configuration comes first
+  module _ {p : ℕ} (size : p ≡ getD file (at + 3) 0) where
+    abbrev outcome : Outcome
+    outcome = performPacked p (drop (at + 4) file) (own % 2 ^ 32)
+
+    abbrev rest : List Hop
+    rest = hopsOf file w₀ own (chosen (stateOf file w₀) (own / 2 ^ 32) j)
+
+    unroll : hopsOf file w₀ own (chosen (stateOf file w₀) (own / 2 ^ 32) (t .going .upto)) ≡ prepend (hopWith outcome (letterOf (getD file (at + 1) 0)) (getD file (at + 2) 0)) rest
+    unfolding collect
+    unroll = rw (chosen-on (stateOf file w₀) (own / 2 ^ 32) (t .going .upto) j (on .below) (on .keyed) (on .none), ← place, hop-at file at own, size)
+
+    -- they fail
+    pub going-failed : outcome ≡ Failed → Going file w₀ n base c known₀ plain₀ own w known plain j′
+    going-failed f = record {
+      kept = t .going .kept;
+      more = t .going .more;
+      configured = t .going .configured;
+      upto = j;
+      few = omega (arith, t .less);
+      here = onward;
+      room = omega (arith, t .going .room, on .below);
+      left = λ all plains s. rw (unroll, f) at (t .going .left all plains s);
+    }
+
+    -- they leave v, and the hop is taken
+    module _ {v : ℕ} (f : outcome ≡ Leaves v) where
+      abbrev taken : Hop
+      taken = record { letter = letterOf (getD file (at + 1) 0); to = v + getD file (at + 2) 0 * 2 ^ 32 }
+
+      passed : (all : List ℕ) (plains : List PlainArc) → Tabled w₀ base known₀ plain₀ all plains
+          → Left w base known plain c (taken ∷ rest) (addAll eqb all (tos (hopsIn n file own))) (plains ++ plainsOf c all (hopsIn n file own))
+      passed all plains s = rw (unroll, f) at (t .going .left all plains s)
+
+      pub going-met : {w′ : List ℕ} {k q : ℕ} → KeptBut configs mapEnd base (startsAt base) w w′ → Counted w′ known (plain + 1) k q → Met w w′ base known plain c (taken .letter) (taken .to) (Tables k q)
+          → Going file w₀ n base c known₀ plain₀ own w′ k q j′
+      going-met b s met = record {
+        kept = but-then (t .going .kept) b;
+        more = omega (arith, t .going .more, s .more);
+        configured = s .configured;
         upto = j;
-        few = omega arith;
+        few = omega (arith, t .less);
         here = onward;
-        room = omega (arith, g .room, on .below);
-        left = λ all plains t. rw (unroll, f) at (g .left all plains t);
+        room = omega (arith, t .going .room, on .below, s .few);
+        left = λ all plains h. left-more met (passed all plains h);
       }
 
-      -- the arc passes, and leaves v
-      abbrev pub hopHere : ℕ → Hop
-      hopHere v = record { letter = letterOf (getD file (at + 1) 0); to = v + getD file (at + 2) 0 * 2 ^ 32 }
+      -- or there are too many
+      pub going-over : (w′ : List ℕ) → Met w w′ base known plain c (taken .letter) (taken .to) TooMany → MetAll w₀ w′ base known₀ plain₀ c (hopsIn n file own) TooMany
+      going-over w′ met all plains h = left-over w′ met (passed all plains h)
 
-      module _ {v : ℕ} (f : outcome ≡ Leaves v) where
-        passed : (all : List ℕ) (plains : List PlainArc) → Tabled w₀ base known₀ plain₀ all plains
-            → Left w base known plain c (hopHere v ∷ hopsOf file w₀ own (chosen (stateOf file w₀) (own / 2 ^ 32) j)) (addAll eqb all (tos (allHops file n own))) (plains ++ plainsOf c all (allHops file n own))
-        passed all plains t = rw (unroll, f) at (g .left all plains t)
-
-        pub going-met : {w′ : List ℕ} {k q : ℕ} → KeptBut configs mapEnd base (startsAt base) w w′ → Counted w′ known (plain + 1) k q → Took w w′ base known plain k q c (hopHere v)
-            → Going file w₀ n base c known₀ plain₀ own w′ k q j′
-        going-met b s took = record {
-          kept = but-then (g .kept) b;
-          more = omega (arith, g .more, s .more);
-          configured = s .configured;
-          upto = j;
-          few = omega arith;
-          here = onward;
-          room = omega (arith, g .room, on .below, s .few);
-          left = λ all plains t. left-more took (passed all plains t);
-        }
-
-        -- or there are too many
-        pub going-over : ((all : List ℕ) (plains : List PlainArc) → Tabled w base known plain all plains → 256 < length (add eqb all (hopHere v .to)))
-            → (all : List ℕ) (plains : List PlainArc) → Tabled w₀ base known₀ plain₀ all plains → 256 < length (addAll eqb all (tos (allHops file n own)))
-        going-over many all plains t = left-over many (passed all plains t)
-
-  -- ---- the end of the chain
-  pub going-end : n .arcs ≤ j → (all : List ℕ) (plains : List PlainArc) → Tabled w₀ base known₀ plain₀ all plains
-      → Tabled w base known plain (addAll eqb all (tos (allHops file n own))) (plains ++ plainsOf c all (allHops file n own))
-  unfolding collect
-  going-end h all plains t =
-      left-end (rw (chosen-off (stateOf file w₀) (own / 2 ^ 32) (g .upto) (off-chain (stateOf file w₀) (own / 2 ^ 32) (g .few) (g .here) h)) at (g .left all plains t))
+-- ---- the end of the chain
+pub going-end : {file w₀ : List ℕ} {n : Counts} {base c known₀ plain₀ own : ℕ} {w : List ℕ} {known plain j : ℕ} → Going file w₀ n base c known₀ plain₀ own w known plain j
+    → n .arcs ≤ j → MetAll w₀ w base known₀ plain₀ c (hopsIn n file own) (Tables known plain)
+unfolding collect
+going-end {file} {w₀} {own = own} g h all plains t =
+    left-end (rw (chosen-off (stateOf file w₀) (own / 2 ^ 32) (g .upto) (off-chain (stateOf file w₀) (own / 2 ^ 32) (g .few) (g .here) h)) at (g .left all plains t))

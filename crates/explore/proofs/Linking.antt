@@ -1,9 +1,8 @@
 -- Linking: the chains of arcs by from-state. A walk along the chain of a state sees the arcs that leave it, in file order.
 use mathlib.Core.Path.{_∙_, _≡_, ap, ap₂, refl, sym}
-use mathlib.Core.Logic.{_≢_}
 use Prim.Native.Nat.{_*_, _+_, _/_, _<_, _^_, _≤_, suc, zero, ℕ}
 use lib.Dec.{eqb}
-use lib.ListN.{drop, getD, length}
+use lib.ListN.{drop, getD}
 use lib.Seq.{drop-drop, getD-drop}
 use mathlib.Core.Bool.{Bool, cond, false, true}
 use mathlib.Core.List.{List, _∷_}

@@ -5,7 +5,7 @@ use mathlib.Core.Path.{_∙_, _≡_, ap, ap₂, refl, sym}
 use Prim.Native.Nat.{_%_, _*_, _+_, _-_, _/_, _<_, _^_, _≤_, suc, zero, ℕ}
 use lib.Bits.{and-mask, bitAnd}
 use lib.ListN.{getD, length, set}
-use lib.Pow.{pow-add, pow-mono, shl-exact, shl-lt, shr-shr}
+use lib.Pow.{pow-add, pow-mono, shl-exact, shr-shr}
 use mathlib.Core.List.{List, [], _∷_}
 use native.Mathlib.Nat.{add-mul-div-left, add-mul-mod-self-left, div-div-eq-div-mul, div-eq-of-lt, div-mul-le-self, div-one, le-of-suc-le-suc, mod-eq-of-lt, mod-le, mod-lt, mul-le-mul-right, mul-left-comm, not-suc-le-zero, zero-add}
 use native.Mathlib.Omega.{arith}
@@ -17,12 +17,6 @@ nib n = and-mask n 4
 
 pub shift-exact : (v q : ℕ) → v < 16 → q < 8 → (v * 2 ^ (4 * q)) % 2 ^ 64 ≡ v * 2 ^ (4 * q)
 shift-exact v q h k = shl-exact 4 (4 * q) 64 h (omega arith)
-
-pub shift-lt : (v q : ℕ) → v < 16 → q < 8 → v * 2 ^ (4 * q) < 2 ^ 32
-shift-lt v q h k =
-    let a : v * 2 ^ (4 * q) < 2 ^ (4 + 4 * q) = shl-lt 4 (4 * q) h in
-    let b : 2 ^ (4 + 4 * q) ≤ 2 ^ 32 = pow-mono {i = 4 + 4 * q} {j = 32} (omega arith) in
-    omega arith
 
 pub digit-lt : (w q : ℕ) → digit w q < 16
 digit-lt w q = mod-lt (w / 2 ^ (4 * q)) (omega arith)

@@ -1,12 +1,11 @@
 -- Performing: the loop over the operations of one arc, at a place of the whole file. What is left gives the whole.
 use mathlib.Core.Path.{_∙_, _≡_, ap, subst}
 use Prim.Native.Nat.{_%_, _*_, _+_, _-_, _<_, _^_, _≤_, ℕ}
-use lib.ListN.{drop, getD, length}
+use lib.ListN.{drop, getD}
 use lib.Seq.{drop-drop, getD-drop}
 use mathlib.Core.List.{List}
 use native.Mathlib.Nat.{add-zero}
 use native.Mathlib.Omega.{arith}
-use Rattle.explore.specs.Arcs.{ArcAt}
 use Rattle.explore.specs.Packed.{Fitting, actPacked, andThen, performPacked}
 use Rattle.explore.specs.declared.Outcome.{Outcome}
 use Rattle.explore.specs.declared.Outcome.the-variants.{Failed, Leaves}

@@ -1,13 +1,12 @@
 -- Places: the arcs of a file at their places, one after the other, and the list of these places in the words.
 use mathlib.Core.Path.{_∙_, _≡_, ap₂, refl, sym}
-use mathlib.Core.Logic.{_≢_}
 use Prim.Native.Nat.{_*_, _+_, _-_, _/_, _<_, _≤_, suc, zero, ℕ}
 use borrow.Author.Tests.{eq-eqb, ne-eqb}
 use lib.Dec.{eqb}
 use lib.ListN.{drop, getD, length}
 use lib.Seq.{drop-drop, getD-drop}
 use mathlib.Core.Bool.{cond}
-use mathlib.Core.List.{List, [], _∷_}
+use mathlib.Core.List.{List, _∷_}
 use native.Mathlib.Decide.{ℕ-discrete}
 use native.Mathlib.Omega.{arith}
 use Rattle.explore.specs.Arcs.{ArcAt, Indexed, Walkable, falling, placeOf, places}
@@ -15,7 +14,6 @@ use Rattle.explore.specs.Map.{arcNexts, offsets}
 use Rattle.format.specs.Placed.{OkArcs, OkOps, whole}
 use Rattle.format.specs.Reading.{arcSize, firstArc}
 use Rattle.format.specs.declared.Counts.{Counts}
-use Rattle.memory.specs.Fields.{field}
 use Rattle.memory.specs.Frame.{Kept}
 use Rattle.memory.proofs.Laws.{kept-same, kept-then, kept-wider}
 

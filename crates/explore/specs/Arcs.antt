@@ -1,6 +1,6 @@
 -- Arcs: the places of a file's arcs, and what exploring notes of them in the words.
 use mathlib.Core.Path.{_≡_}
-use Prim.Native.Nat.{_*_, _+_, _<_, _≤_, suc, zero, ℕ}
+use Prim.Native.Nat.{_*_, _+_, _≤_, suc, zero, ℕ}
 use lib.ListN.{drop, getD, length}
 use mathlib.Core.List.{List, [], _∷_}
 use Rattle.explore.specs.Map.{arcHeads, arcNexts, offsets}

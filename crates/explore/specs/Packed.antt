@@ -13,7 +13,8 @@ use Rattle.automata.specs.Live.{PlainArc}
 use Rattle.explore.specs.declared.Outcome.{Outcome}
 use Rattle.explore.specs.declared.Outcome.the-variants.{Failed, Leaves}
 use Rattle.format.specs.Decoding.{letterOf}
-use Rattle.format.specs.Reading.{arcSize}
+use Rattle.format.specs.Reading.{arcSize, firstArc}
+use Rattle.format.specs.declared.Counts.{Counts}
 
 -- the contents of the registers as one number, register 0 lowest, four bits each
 unfoldable pub packContents : List ℕ → ℕ
@@ -72,6 +73,10 @@ unfoldable pub hops : ℕ → List ℕ → ℕ → List Hop
 unfolding hop
 hops zero l w = []
 hops (suc m) l w = prepend (hopFrom l w) (hops m (drop (arcSize l) l) w)
+
+-- what the arcs of a file with the counts c make of w
+abbrev pub hopsIn : Counts → List ℕ → ℕ → List Hop
+hopsIn c file w = hops (c .arcs) (drop (firstArc c) file) w
 
 abbrev pub tos : List Hop → List ℕ
 tos hs = map (λ h. h .to) hs

@@ -4,12 +4,13 @@ use mathlib.Core.Logic.{_↔_, _⊎_}
 use Prim.Native.Nat.{_*_, _+_, _<_, _^_, _≤_, ℕ}
 use lib.Dec.{T, eqb}
 use lib.ListN.{drop, getD, length, take}
-use mathlib.Core.List.{List, List·Memᴰ, map}
-use mathlib.Core.Option.{none}
-use Rattle.automata.specs.Exploration.{Distinct}
+use mathlib.Core.List.{List, List·Memᴰ, [], _++_, _∷_, map}
+use mathlib.Core.Option.{Option, none}
+use Rattle.automata.specs.Exploration.{Distinct, add, addAll, number}
 use Rattle.automata.specs.Lists.{countFrom}
 use Rattle.automata.specs.Live.{Moves, PlainArc}
 use Rattle.explore.specs.Map.{arcsAt, configHeads, configNexts, configs}
+use Rattle.explore.specs.Packed.{Hop, plainArc, plainsOf, tos}
 use Rattle.explore.specs.declared.Explored.{Explored}
 use Rattle.explore.specs.declared.Explored.the-variants.{Tables, TooMany}
 use Rattle.format.specs.Encoding.{letterByte}
@@ -58,3 +59,13 @@ Safe w known most (Tables k p) = Counted w known most k p
 abbrev pub Holds : List ℕ → ℕ → List ℕ → List PlainArc → Explored → Type 0
 Holds w base all plains TooMany = 256 < length all
 Holds w base all plains (Tables k p) = Tabled w base k p all plains
+
+-- a hop from configuration c by the letter α to `key` has been taken
+abbrev pub Met : List ℕ → List ℕ → ℕ → ℕ → ℕ → ℕ → Option ℕ → ℕ → Explored → Type 0
+Met w w′ base known plain c α key r = (all : List ℕ) (plains : List PlainArc) → Tabled w base known plain all plains
+    → Holds w′ base (add eqb all key) (plains ++ plainArc c α (number eqb key all) ∷ []) r
+
+-- all these hops have been taken
+abbrev pub MetAll : List ℕ → List ℕ → ℕ → ℕ → ℕ → ℕ → List Hop → Explored → Type 0
+MetAll w w′ base known plain c hs r = (all : List ℕ) (plains : List PlainArc) → Tabled w base known plain all plains
+    → Holds w′ base (addAll eqb all (tos hs)) (plains ++ plainsOf c all hs) r

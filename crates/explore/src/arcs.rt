@@ -1,5 +1,4 @@
 // The arcs of a file: their places, and the chains of those that leave the same state.
-ghost use mathlib.Core.Path.{_≡_};
 ghost use Prim.Native.Nat.{_≤_};
 ghost use lib.ListN.{length};
 ghost use Rattle.explore.specs.Map.{offsets, arcNexts, configs};

@@ -13,7 +13,7 @@ ghost use Rattle.memory.specs.Frame.{Kept};
 ghost use Rattle.sets.specs.Rows.{related};
 ghost use Rattle.explore.specs.Map.{configs, mapEnd, arcsAt, startsAt, Placed, KeptBut};
 ghost use Rattle.explore.specs.Packed.{plainArc};
-ghost use Rattle.explore.specs.Tables.{Configured, Tabled, Safe, Holds};
+ghost use Rattle.explore.specs.Tables.{Configured, Tabled, Safe, Met};
 use super::Explored;
 use super::map::CONFIG_HEADS;
 use super::map::CONFIG_NEXTS;
@@ -88,7 +88,7 @@ fn meet(
     requires { ⌜ (c < known) × (letter < 256) × (key < 2 ^ 40) × (plain < 2 ^ 32) × Placed (now w) base × Configured (now w) known ⌝ }
     ensures kept { λ _. ⌜ KeptBut configs mapEnd base (startsAt base) (now (w .entry)) (now (w .exit)) ⌝ }
     ensures safe { λ r. ⌜ Safe (now (w .exit)) known (plain + 1) r ⌝ }
-    ensures holds { λ r. ⌜ ((all : List ℕ) (plains : List PlainArc) → Tabled (now (w .entry)) base known plain all plains → Holds (now (w .exit)) base (add eqb all key) (plains ++ plainArc c (letterOf letter) (number eqb key all) ∷ []) r) ⌝ }
+    ensures met { λ r. ⌜ Met (now (w .entry)) (now (w .exit)) base known plain c (letterOf letter) key r ⌝ }
 {
     let target = find_word(w, CONFIGS, CONFIG_HEADS, CONFIG_NEXTS, known, key);
     if target < known {
@@ -124,7 +124,7 @@ pub fn arrive(
     requires { ⌜ (at + 4 ≤ length (now file)) × (regs < 2 ^ 32) × (c < known) × (plain < 2 ^ 32) × Placed (now w) base × Configured (now w) known ⌝ }
     ensures kept { λ _. ⌜ KeptBut configs mapEnd base (startsAt base) (now (w .entry)) (now (w .exit)) ⌝ }
     ensures safe { λ r. ⌜ Safe (now (w .exit)) known (plain + 1) r ⌝ }
-    ensures holds { λ r. ⌜ ((all : List ℕ) (plains : List PlainArc) → Tabled (now (w .entry)) base known plain all plains → Holds (now (w .exit)) base (add eqb all (regs + getD (now (file .entry)) (at + 2) 0 * 2 ^ 32)) (plains ++ plainArc c (letterOf (getD (now (file .entry)) (at + 1) 0)) (number eqb (regs + getD (now (file .entry)) (at + 2) 0 * 2 ^ 32) all) ∷ []) r) ⌝ }
+    ensures met { λ r. ⌜ Met (now (w .entry)) (now (w .exit)) base known plain c (letterOf (getD (now (file .entry)) (at + 1) 0)) (regs + getD (now (file .entry)) (at + 2) 0 * 2 ^ 32) r ⌝ }
 {
     let key = regs + ((byte(file, at + 2) as u64) << 32);
     meet(w, base, c, known, plain, byte(file, at + 1), key)

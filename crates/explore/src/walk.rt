@@ -1,21 +1,19 @@
 // The walk: configurations in number order, the arcs of each in file order.
 ghost use mathlib.Core.Path.{_≡_};
 ghost use mathlib.Core.Bool.{cond, _&&_};
-ghost use mathlib.Core.List.{List, [], _∷_, _++_};
-ghost use Prim.Native.Nat.{ℕ, _+_, _^_, _<_, _≤_};
+ghost use mathlib.Core.List.{[], _∷_};
+ghost use Prim.Native.Nat.{ℕ, _+_, _^_, _<_};
 ghost use lib.Dec.{eqb, leb};
-ghost use lib.ListN.{length, getD, drop};
+ghost use lib.ListN.{getD, drop};
 ghost use Rattle.automata.specs.Automaton.{Automaton};
-ghost use Rattle.automata.specs.Exploration.{addAll};
-ghost use Rattle.automata.specs.Live.{PlainArc};
 ghost use Rattle.format.specs.Decoding.{arcsOf};
 ghost use Rattle.format.specs.Reading.{firstArc};
 ghost use Rattle.memory.specs.Fields.{field};
 ghost use Rattle.memory.specs.Frame.{Kept};
 ghost use Rattle.explore.specs.Arcs.{Walkable, Indexed, Linked};
 ghost use Rattle.explore.specs.Map.{offsets, configs, mapEnd, arcsAt, startsAt, blockEnd, Placed, KeptBut};
-ghost use Rattle.explore.specs.Packed.{hops, tos, plainsOf};
-ghost use Rattle.explore.specs.Tables.{Configured, Tabled, Safe, Holds};
+ghost use Rattle.explore.specs.Packed.{hopsIn};
+ghost use Rattle.explore.specs.Tables.{Configured, Tabled, Safe, MetAll};
 ghost use Rattle.explore.specs.Explores.{Explores};
 use super::Explored;
 use super::Outcome;
@@ -50,7 +48,7 @@ fn explore_one(
     requires { ⌜ (c < «from_known») × («from_plain» < 2 ^ 31) × Placed (now w) base × Configured (now w) «from_known» ⌝ }
     ensures kept { λ _. ⌜ KeptBut configs mapEnd base (startsAt base) (now (w .entry)) (now (w .exit)) ⌝ }
     ensures safe { λ r. ⌜ Safe (now (w .exit)) «from_known» («from_plain» + counts .arcs) r ⌝ }
-    ensures holds { λ r. ⌜ ((all : List ℕ) (plains : List PlainArc) → Tabled (now (w .entry)) base «from_known» «from_plain» all plains → Holds (now (w .exit)) base (addAll eqb all (tos (hops (counts .arcs) (drop (firstArc counts) (now (file .entry))) (getD (now (w .entry)) (configs + c) 0)))) (plains ++ plainsOf c all (hops (counts .arcs) (drop (firstArc counts) (now (file .entry))) (getD (now (w .entry)) (configs + c) 0))) r) ⌝ }
+    ensures met { λ r. ⌜ MetAll (now (w .entry)) (now (w .exit)) base «from_known» «from_plain» c (hopsIn counts (now (file .entry)) (getD (now (w .entry)) (configs + c) 0)) r ⌝ }
 {
     let own = w[CONFIGS + c];
     let mut known = from_known;

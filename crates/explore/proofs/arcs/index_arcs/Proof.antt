@@ -1,14 +1,10 @@
 -- `explore::arcs::index_arcs` meets its contract. The loop's invariant: i places are left to note, and with them the list is whole (Indexing).
-use borrow.Author.Needs.{needs}
 use native.Mathlib.Omega.{arith}
-use mathlib.Core.Path.{_≡_, refl, ap, _∙_, subst}
-use Prim.Native.Nat.{ℕ, suc, _+_, _-_, _*_, _≤_, _<_}
-use lib.ListN.{getD}
-use Rattle.explore.proofs.Places.{Indexing, after, first-arc, first-size, indexing-start, indexing-more, indexing-end, walkable-arcs}
+use mathlib.Core.Path.{_≡_}
+use Prim.Native.Nat.{suc, _+_, _-_}
+use Rattle.explore.proofs.Places.{Indexing, first-arc, indexing-start, indexing-more, indexing-end, walkable-arcs}
 use Rattle.explore.proofs.arcs.index_arcs.Statement.{statement}
 use Rattle.explore.proofs.arcs.index_arcs.Tie as tie
-use Rattle.explore.proofs.arcs.index_arcs.Reads as reads
-use Rattle.explore.proofs.arcs.index_arcs.Lts as lts
 
 abbrev Inv-loop : tie.InvT-loop
 Inv-loop file w₀ at₀ i₀ w at i = Indexing file w₀ at₀ i₀ w at i

@@ -1,8 +1,7 @@
 -- `explore::arcs::link_arcs` meets its contract. The loop's invariant: the first j entries are in the chains (Linking).
-use borrow.Author.Needs.{needs}
 use native.Mathlib.Omega.{arith}
-use mathlib.Core.Path.{_≡_, refl, ap, sym, _∙_, subst}
-use Prim.Native.Nat.{ℕ, _+_, _-_, _*_, _≤_, _<_}
+use mathlib.Core.Path.{ap, _∙_}
+use Prim.Native.Nat.{ℕ, _-_}
 use lib.ListN.{getD}
 use Rattle.explore.specs.Map.{arcNexts, configs}
 use Rattle.memory.specs.Frame.{Kept}
@@ -11,8 +10,6 @@ use Rattle.explore.proofs.Linking.{Linking, linking-start, linking-more
 use Rattle.memory.proofs.Laws.{kept-then, kept-wider}
 use Rattle.explore.proofs.arcs.link_arcs.Statement.{statement}
 use Rattle.explore.proofs.arcs.link_arcs.Tie as tie
-use Rattle.explore.proofs.arcs.link_arcs.Reads as reads
-use Rattle.explore.proofs.arcs.link_arcs.Lts as lts
 
 abbrev Inv-loop : tie.InvT-loop
 Inv-loop file counts w₀ j₀ w j = Linking file w₀ (counts .arcs) w j

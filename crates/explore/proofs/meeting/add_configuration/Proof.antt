@@ -1,12 +1,9 @@
 -- `explore::meeting::add_configuration` meets its contract: the word joins the table and its chain, then row `known` holds `known` alone.
 use borrow.Author.Needs.{needs}
-use native.Mathlib.Omega.{arith}
 use Rattle.explore.proofs.Fields.{row-alone}
 use Rattle.explore.proofs.Tabling.{new-kept, configured-new, tabled-new}
 use Rattle.explore.proofs.meeting.add_configuration.Statement.{statement}
 use Rattle.explore.proofs.meeting.add_configuration.Tie as tie
-use Rattle.explore.proofs.meeting.add_configuration.Reads as reads
-use Rattle.explore.proofs.meeting.add_configuration.Lts as lts
 
 returns : tie.Need-returns
 returns c =

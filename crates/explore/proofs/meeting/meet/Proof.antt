@@ -1,16 +1,13 @@
 -- `explore::meeting::meet` meets its contract: the configuration has a number, or there are too many, or it gets the next one; then the arc is noted.
 use borrow.Author.Needs.{needs}
 use native.Mathlib.Omega.{arith}
-use mathlib.Core.Path.{_≡_, _∙_}
 use Prim.Native.Nat.{_+_}
 use Rattle.format.specs.Decoding.{letterOf}
-use Rattle.explore.proofs.Finding.{met-many, met-none, met-old, placed-kept}
+use Rattle.explore.proofs.Finding.{met-many, met-none, met-old}
 use Rattle.explore.proofs.Frames.{but-high, but-same, but-then, but-wider}
 use Rattle.explore.proofs.Tabling.{configured-kept}
 use Rattle.explore.proofs.meeting.meet.Statement.{statement}
 use Rattle.explore.proofs.meeting.meet.Tie as tie
-use Rattle.explore.proofs.meeting.meet.Reads as reads
-use Rattle.explore.proofs.meeting.meet.Lts as lts
 
 -- it has a number
 returns : tie.Need-returns

@@ -3,8 +3,6 @@ use borrow.Author.Needs.{needs}
 use Rattle.explore.proofs.Tabling.{arc-kept, tabled-arc}
 use Rattle.explore.proofs.meeting.note_arc.Statement.{statement}
 use Rattle.explore.proofs.meeting.note_arc.Tie as tie
-use Rattle.explore.proofs.meeting.note_arc.Reads as reads
-use Rattle.explore.proofs.meeting.note_arc.Lts as lts
 
 returns : tie.Need-returns
 returns c =

@@ -2,14 +2,11 @@
 use borrow.Author.Needs.{needs}
 use borrow.Author.Tests.{eq-eqb, ne-eqb}
 use native.Mathlib.Omega.{arith}
-use native.Mathlib.Decide.{ℕ-discrete}
-use mathlib.Core.Path.{_≡_, _∙_, refl}
+use mathlib.Core.Path.{_∙_}
 use Rattle.explore.proofs.Fields.{row-joined}
 use Rattle.memory.proofs.Laws.{kept-same, kept-wider}
 use Rattle.explore.proofs.meeting.note_empty_move.Statement.{statement}
 use Rattle.explore.proofs.meeting.note_empty_move.Tie as tie
-use Rattle.explore.proofs.meeting.note_empty_move.Reads as reads
-use Rattle.explore.proofs.meeting.note_empty_move.Lts as lts
 
 returns : tie.Need-returns
 returns c =

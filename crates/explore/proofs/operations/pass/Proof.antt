@@ -1,17 +1,12 @@
 -- `explore::operations::pass` meets its contract. The loop's invariant: the first k operations leave `regs`, and what is left gives the whole (Performing).
 use borrow.Author.Needs.{needs}
 use native.Mathlib.Omega.{arith}
-use mathlib.Core.Path.{_≡_, ap, _∙_, sym}
-use Prim.Native.Nat.{ℕ, _+_, _-_, _*_, _%_, _^_, _≤_, _<_}
+use mathlib.Core.Path.{sym}
+use Prim.Native.Nat.{_-_}
 use lib.Bits.{and-mask}
-use lib.ListN.{drop, getD, length}
-use Rattle.explore.specs.Packed.{performPacked}
-use Rattle.format.specs.Placed.{OkOps}
 use Rattle.explore.proofs.Performing.{Performing, next-ok, performing-start, performing-failed, performing-more, performing-end}
 use Rattle.explore.proofs.operations.pass.Statement.{statement}
 use Rattle.explore.proofs.operations.pass.Tie as tie
-use Rattle.explore.proofs.operations.pass.Reads as reads
-use Rattle.explore.proofs.operations.pass.Lts as lts
 
 abbrev Inv-loop : tie.InvT-loop
 Inv-loop file at own p regs₀ k₀ regs k = Performing file at p own k regs

@@ -11,8 +11,6 @@ use Rattle.explore.proofs.Linking.{indexed-kept, linked-kept}
 use Rattle.explore.proofs.Tabling.{configured-none, tabled-none}
 use Rattle.explore.proofs.walk.prepare.Statement.{statement}
 use Rattle.explore.proofs.walk.prepare.Tie as tie
-use Rattle.explore.proofs.walk.prepare.Reads as reads
-use Rattle.explore.proofs.walk.prepare.Lts as lts
 
 add-configuration-requires : tie.Need-add-configuration-requires
 add-configuration-requires c κs =
