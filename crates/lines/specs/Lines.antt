@@ -6,7 +6,9 @@ use Rattle.text.specs.Digits.{decimalOf}
 use Rattle.text.specs.Line.{ascii, line}
 use Rattle.format.specs.declared.Counts.{Counts}
 use Rattle.format.specs.declared.Reading.{Reading}
-use Rattle.format.specs.declared.Reading.the-variants.{Valid, Refused}
+use Rattle.format.specs.declared.Reading.the-variants.{Valid, Refused as Fault}
+use Rattle.table.specs.declared.Membership.{Membership}
+use Rattle.table.specs.declared.Membership.the-variants.{Accepted, Rejected, Refused}
 
 -- a refusal: its number, and the automaton at fault
 abbrev pub refusedLine : ℕ → ℕ → List ℕ
@@ -21,4 +23,14 @@ validLine c =
 -- what reading a file answers; the one file handed in is automaton 1
 abbrev pub readingLine : Reading → List ℕ
 readingLine (Valid c) = validLine c
-readingLine (Refused n) = refusedLine n 1
+readingLine (Fault n) = refusedLine n 1
+
+-- a word for the answer, and a number
+abbrev pub countLine : List ℕ → ℕ → List ℕ
+countLine answer n = line (answer ∷ decimalOf n ∷ [])
+
+-- what membership answers; the number is that of the configurations live after the word
+abbrev pub membershipLine : Membership → List ℕ
+membershipLine (Accepted n) = countLine (ascii "taken") n
+membershipLine (Rejected n) = countLine (ascii "not") n
+membershipLine (Refused n b) = refusedLine n b

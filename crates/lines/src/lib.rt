@@ -2,8 +2,9 @@
 // Each function answers how many bytes the line takes, its newline included; what has no room is cut.
 use format::Counts;
 use format::Reading;
+use table::Membership;
 ghost use Rattle.text.specs.Writing.{Writes};
-ghost use Rattle.lines.specs.Lines.{refusedLine, validLine, readingLine};
+ghost use Rattle.lines.specs.Lines.{refusedLine, validLine, readingLine, countLine, membershipLine};
 
 // A refusal: its number, and the automaton at fault.
 pub fn refused_line(number: u8, automaton: u8, out: &mut [u8]) -> usize
@@ -35,5 +36,25 @@ pub fn reading_line(r: Reading, out: &mut [u8]) -> usize
     match r {
         Reading::Valid(c) => valid_line(c, out),
         Reading::Refused(n) => refused_line(n, 1, out),
+    }
+}
+
+// A word for the answer, and a number.
+fn count_line(answer: &[u8], n: u64, out: &mut [u8]) -> usize
+    ensures { λ r. ⌜ Writes (countLine (now (answer .entry)) n) 0 r (now (out .entry)) (now (out .exit)) ⌝ }
+{
+    let mut at = text::put(answer, out, 0);
+    at = text::decimal_field(n, out, at);
+    text::put_byte(b'\n', out, at)
+}
+
+// What membership answers.
+pub fn membership_line(r: Membership, out: &mut [u8]) -> usize
+    ensures { λ n. ⌜ Writes (membershipLine r) 0 n (now (out .entry)) (now (out .exit)) ⌝ }
+{
+    match r {
+        Membership::Accepted(n) => count_line(b"taken", n, out),
+        Membership::Rejected(n) => count_line(b"not", n, out),
+        Membership::Refused(n, b) => refused_line(n, b, out),
     }
 }
