@@ -61,6 +61,10 @@ fn answer(
             let n = lines::reading_line(format::read(first), line);
             io::write_all(1, &line[0..n])
         }
+        2 => {
+            let n = lines::membership_line(table::accepts(first, second, work), line);
+            io::write_all(1, &line[0..n])
+        }
         _ => {
             io::write_all(1, b"unknown\n");
             false

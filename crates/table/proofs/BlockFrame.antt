@@ -17,7 +17,7 @@ use Rattle.memory.proofs.Laws.{field-same}
 use Rattle.sets.specs.Sets.{inSet}
 use Rattle.sets.specs.Rows.{related}
 use Rattle.sets.proofs.Laws.{row-same}
-use Rattle.table.specs.Stepping.{Among, Held, Room, Starts, endAt, startAt}
+use Rattle.table.specs.Stepping.{Among, FromList, Held, Room, Starts, endAt, startAt}
 
 -- the words of the block are as they were
 pub record SameBlock (base : ℕ) (w w' : List ℕ) : Type 0 where
@@ -85,10 +85,14 @@ module _ {w w' : List ℕ} {base : ℕ} (b : SameBlock base w w') where
         },
   )
 
-  pub held-kept : {count letters plain : ℕ} {arcs : List PlainArc} → Starts w base count plain → Held count letters arcs w base plain → Held count letters arcs w' base plain
-  held-kept {count} {plain = plain} s held = record {
-    within = held .within;
-    covers = λ i l j h g.
-        rw (start-kept i (omega (arith, s .few)), end-kept count plain i (s .few))
-        (iff-trans (among-kept (startAt w base i) (endAt w base count plain i) l j (end-few i s)) (held .covers i l j h g));
-  }
+  -- the arcs that a configuration has listed, from `from` to before `to`
+  pub list-kept : {count plain from to : ℕ} (c : ℕ) → Starts w base count plain → c < count → from ≡ startAt w' base c → to ≡ endAt w' base count plain c
+      → (p j : ℕ) → Among w' base from to p j ↔ FromList w base count plain c p j
+  list-kept {count} {plain} {from} {to} c s h ef et p j =
+      let start : from ≡ startAt w base c = ef ∙ start-kept c (omega (arith, s .few)) in
+      let end : to ≡ endAt w base count plain c = et ∙ end-kept count plain c (s .few) in
+      rw (← start, ← end) (among-kept from to p j (omega (arith, end, end-few c s)))
+
+-- what tells the plain arcs tells them still where it says the same of other words
+pub held-same : {count letters : ℕ} {arcs : List PlainArc} {From From' : ℕ → ℕ → ℕ → Type 0} → ((s l j : ℕ) → s < count → From' s l j ↔ From s l j) → Held count letters arcs From → Held count letters arcs From'
+held-same f held = record { within = held .within; covers = λ s l j h g. iff-trans (f s l j h) (held .covers s l j h g) }

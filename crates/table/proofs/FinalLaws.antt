@@ -65,16 +65,21 @@ configurations-states x wf L i d e = reached (known-sound sameConfiguration (tar
         let h : q .0 .to .state < states x = rw (← (p .enters)) (wf .targets (p .arc) (p .listed)) in
         rw (← (q .2)) h
 
+-- each word of the table is a configuration, packed
+pub word-in : (w : List ℕ) (known : ℕ) (cs : List Configuration) → take known (drop configs w) ≡ map pack cs → known ≡ length cs → (i : ℕ) → i < known
+    → (d : Configuration) × (getElem? cs i ≡ some d) × (getD w (configs + i) 0 ≡ pack d)
+word-in w known cs stand many i h =
+    let f = getElem?-some cs i (omega arith) in
+    let e : some (getD w (configs + i) 0) ≡ some (pack (f .0)) =
+    ap some (sym (getD-take known (drop configs w) i 0 h ∙ getD-drop configs w i 0) ∙ ap (λ (l : List ℕ). getD l i 0) stand)
+    ∙ sym (at-some (map pack cs) i 0 (omega (arith, length-map cs pack))) ∙ at-map pack cs i ∙ ap (Option·map pack) (f .1) in
+    (f .0, f .1, Option·some-injective (getD w (configs + i) 0) (pack (f .0)) e)
+
 -- x has the final states that the flags of the file say; the words hold the configurations cs
 module _ (x : Automaton) (c : Counts) (file : List ℕ) (flagged : x .finals ≡ map isFinal (flagBytes c file)) (n : ℕ) (few : n ≤ 8) (w : List ℕ) (known : ℕ) (cs : List Configuration)
     (stand : take known (drop configs w) ≡ map pack cs) (many : known ≡ length cs) (good : Each (Good n) cs) (small : (i : ℕ) (d : Configuration) → getElem? cs i ≡ some d → d .state < c .states) where
   state-in : (i : ℕ) → i < known → (d : Configuration) × (getElem? cs i ≡ some d) × (stateIn w i ≡ d .state)
-  state-in i h =
-      let f = getElem?-some cs i (omega arith) in
-      let e : some (getD w (configs + i) 0) ≡ some (pack (f .0)) =
-      ap some (sym (getD-take known (drop configs w) i 0 h ∙ getD-drop configs w i 0) ∙ ap (λ (l : List ℕ). getD l i 0) stand)
-      ∙ sym (at-some (map pack cs) i 0 (omega (arith, length-map cs pack))) ∙ at-map pack cs i ∙ ap (Option·map pack) (f .1) in
-      (f .0, f .1, ap (λ (v : ℕ). v / 2 ^ 32) (Option·some-injective (getD w (configs + i) 0) (pack (f .0)) e) ∙ state-of n few (f .0) (each-at (Good n) cs i (f .1) good))
+  state-in i h = let f = word-in w known cs stand many i h in (f .0, f .1, ap (λ (v : ℕ). v / 2 ^ 32) (f .2) ∙ state-of n few (f .0) (each-at (Good n) cs i (f .1) good))
 
   -- the flag of each configuration's state is in the file
   pub flag-inside : firstArc c ≤ length file → (i : ℕ) → i < known → flagPlace c (stateIn w i) < length file

@@ -86,11 +86,11 @@ module _ {file : List ℕ} {c : Counts} {w : List ℕ} {base k p : ℕ} (r : Rea
 
   -- the file reaches up to its first arc
   reach : firstArc c ≤ length file
-  reach = omega (arith, r .lies .fits)
+  reach = omega (arith, r .steps .walkable .lies .fits)
 
   good : Each (Good (c .registers)) (configurations (decoded c file) 256)
   unfolding decoded
-  good = configurations-packed (decoded c file) (c .registers) (c .arcs) (drop (firstArc c) file) (r .lies .registers) refl refl (r .lies .ok) 256 .1
+  good = configurations-packed (decoded c file) (c .registers) (c .arcs) (drop (firstArc c) file) (r .steps .walkable .lies .registers) refl refl (r .steps .walkable .lies .ok) 256 .1
 
   small : (i : ℕ) (d : Configuration) → getElem? (configurations (decoded c file) 256) i ≡ some d → d .state < c .states
   unfolding decoded
@@ -100,8 +100,8 @@ module _ {file : List ℕ} {c : Counts} {w : List ℕ} {base k p : ℕ} (r : Rea
 
   pub ready-flags : (i : ℕ) → i < k → flagPlace c (stateIn w i) < length file
   unfolding decoded
-  ready-flags = flag-inside (decoded c file) c file refl (c .registers) (r .lies .registers) w k (configurations (decoded c file) 256) (r .built .configured) (r .built .many) good small reach
+  ready-flags = flag-inside (decoded c file) c file refl (c .registers) (r .steps .walkable .lies .registers) w k (configurations (decoded c file) 256) (r .built .configured) (r .built .many) good small reach
 
   pub ready-finals : (set : List ℕ) → ((j : ℕ) → inSet set j ≡ (ltb j k && isFinalIn file c w j)) → view k set ≡ finalSet (decoded c file) (configurations (decoded c file) 256)
   unfolding decoded
-  ready-finals set e = final-view (decoded c file) c file refl (c .registers) (r .lies .registers) w k (configurations (decoded c file) 256) (r .built .configured) (r .built .many) good small set e .0
+  ready-finals set e = final-view (decoded c file) c file refl (c .registers) (r .steps .walkable .lies .registers) w k (configurations (decoded c file) 256) (r .built .configured) (r .built .many) good small set e .0

@@ -1,10 +1,13 @@
 pub mod LetterSets
 pub mod BlockFrame
 pub mod Visiting
+pub mod FileVisits
 pub mod Onward
 pub mod PlainPlaces
 pub mod Building
 pub mod FinalLaws
+pub mod FileCovers
 pub mod WordSteps
 pub mod Judging
+pub mod Accepting
 pub mod Promise

@@ -1,5 +1,5 @@
 -- Onward: a step by all letters at once takes each live configuration's arcs, and leaves the live set of each letter.
-use mathlib.Core.Path.{_∙_, _≡_, subst}
+use mathlib.Core.Path.{_≡_, subst}
 use mathlib.Core.Logic.{_↔_, _⊎_, inl, inr}
 use mathlib.Core.List.{List, []}
 use mathlib.Core.Option.{some}
@@ -14,101 +14,83 @@ use Rattle.memory.specs.Frame.{Kept}
 use Rattle.memory.proofs.Laws.{kept-same, kept-then}
 use Rattle.sets.specs.Sets.{Next, Within, inSet, view}
 use Rattle.sets.proofs.Laws.{in-view, view-is}
-use Rattle.table.specs.Stepping.{Among, Held, Room, Starts, endAt, setOf, startAt}
-use Rattle.table.proofs.BlockFrame.{SameBlock, among-kept, block-kept, end-few, end-kept, start-kept}
+use Rattle.table.specs.Stepping.{Held, setOf}
 use Rattle.table.proofs.LetterSets.{none-met}
 
--- among the arcs of a member of the set below c one with letter l has j in the row of its target
-pub record Onward (w : List ℕ) (base count plain : ℕ) (set : List ℕ) (c l j : ℕ) : Type 0 where
-  pub source : ℕ
-  pub lives : T (inSet set source)
-  pub below : source < c
-  pub among : Among w base (startAt w base source) (endAt w base count plain source) l j
+-- `From` says where a letter leads from a configuration; a step is over it, whether the arcs are listed or stand in the file
+module _ (From : ℕ → ℕ → ℕ → Type 0) where
+  -- a member of the set below c leads by letter l to j
+  pub record Onward (set : List ℕ) (c l j : ℕ) : Type 0 where
+    pub source : ℕ
+    pub lives : T (inSet set source)
+    pub below : source < c
+    pub leads : From source l j
 
--- the members of the set below c have been visited, and c is the next one
-pub record Stepping (w₀ : List ℕ) (base acc count plain : ℕ) (set : List ℕ) (c : ℕ) (w : List ℕ) (met : ℕ) : Type 0 where
-  pub high : c ≤ 256
-  pub live : c < 256 → T (inSet set c)
-  pub kept : Kept acc (acc + 256) w₀ w
-  pub sets : (p j : ℕ) → p < 64 → T (inSet (setOf w acc met p) j) ↔ Onward w₀ base count plain set c p j
+  -- the members of the set below c have been visited, and c is the next one
+  pub record Stepping (w₀ : List ℕ) (acc : ℕ) (set : List ℕ) (c : ℕ) (w : List ℕ) (met : ℕ) : Type 0 where
+    pub high : c ≤ 256
+    pub live : c < 256 → T (inSet set c)
+    pub kept : Kept acc (acc + 256) w₀ w
+    pub sets : (p j : ℕ) → p < 64 → T (inSet (setOf w acc met p) j) ↔ Onward set c p j
 
-pub stepping-start : (w : List ℕ) (base acc count plain : ℕ) {set : List ℕ} {c : ℕ} → Next set 0 c → Stepping w base acc count plain set c w 0
-stepping-start w base acc count plain n = record {
-  high = n .high;
-  live = n .member;
-  kept = kept-same acc (acc + 256) w;
-  sets = λ p j h. (λ t. absurd (subst T (none-met w acc p j) t), λ o. absurd (n .none (o .source) (omega arith) (o .below) (o .lives)));
-}
-
--- a turn: the arcs of c, from `from` to before `to`, are visited
-module _ {w₀ w w' : List ℕ} {base acc count plain : ℕ} {set : List ℕ} {c met from to c' : ℕ} (met' : ℕ) (r : Room w₀ base acc) (s : Starts w₀ base count plain) (h : c < count)
-    (k : Stepping w₀ base acc count plain set c w met) (ef : from ≡ startAt w base c) (et : to ≡ endAt w base count plain c) (kk : Kept acc (acc + 256) w w')
-    (f : (p j : ℕ) → p < 64 → T (inSet (setOf w' acc met' p) j) ↔ (T (inSet (setOf w acc met p) j) ⊎ Among w base from to p j)) (n : Next set (c + 1) c') where
-  few : count ≤ 256
-  few = s .few
-
-  same-block : SameBlock base w₀ w
-  same-block = block-kept (k .kept) (r .apart)
-
-  start : from ≡ startAt w₀ base c
-  start = ef ∙ start-kept same-block c (omega (arith, few))
-
-  end : to ≡ endAt w₀ base count plain c
-  end = et ∙ end-kept same-block count plain c few
-
-  less : to ≤ 2048
-  less = omega (arith, end, end-few c s)
-
-  own : (p j : ℕ) → Among w base from to p j ↔ Among w₀ base (startAt w₀ base c) (endAt w₀ base count plain c) p j
-  own p j = rw (← start, ← end) (among-kept same-block from to p j less)
-
-  on : (p j : ℕ) → p < 64 → T (inSet (setOf w acc met p) j) ⊎ Among w base from to p j → Onward w₀ base count plain set c' p j
-  on p j l (inl t) = let o = (k .sets p j l) .0 t in let a = o .below in let b = n .low in record { source = o .source; lives = o .lives; below = omega arith; among = o .among }
-  on p j l (inr a) = let b = n .low in record { source = c; lives = k .live (omega (arith, few)); below = omega arith; among = (own p j) .0 a }
-
-  back : (p j : ℕ) → p < 64 → (o : Onward w₀ base count plain set c' p j) → Dec (o .source ≡ c) → Dec (o .source < c) → T (inSet (setOf w acc met p) j) ⊎ Among w base from to p j
-  back p j l o (yes e) d = inr ((own p j) .1 (subst (λ (x : ℕ). Among w₀ base (startAt w₀ base x) (endAt w₀ base count plain x) p j) e (o .among)))
-  back p j l o (no q) (yes m) = inl ((k .sets p j l) .1 (record { source = o .source; lives = o .lives; below = m; among = o .among }))
-  back p j l o (no q) (no m) = absurd (n .none (o .source) (omega arith) (o .below) (o .lives))
-
-  pub stepping-more : Stepping w₀ base acc count plain set c' w' met'
-  stepping-more = record {
+  pub stepping-start : (w : List ℕ) (acc : ℕ) {set : List ℕ} {c : ℕ} → Next set 0 c → Stepping w acc set c w 0
+  stepping-start w acc n = record {
     high = n .high;
     live = n .member;
-    kept = kept-then (k .kept) kk;
-    sets = λ p j l. (λ t. on p j l ((f p j l) .0 t), λ o. (f p j l) .1 (back p j l o (ℕ-discrete (o .source) c) (decLt (o .source) c)));
+    kept = kept-same acc (acc + 256) w;
+    sets = λ p j h. (λ t. absurd (subst T (none-met w acc p j) t), λ o. absurd (n .none (o .source) (omega arith) (o .below) (o .lives)));
   }
 
--- THE LAW. The sets that a step leaves are those behind one more letter
-module _ {w₀ w : List ℕ} {base acc count plain : ℕ} {set : List ℕ} {c met : ℕ} (h : count ≤ c) (k : Stepping w₀ base acc count plain set c w met)
-    (letters : ℕ) (arcs : List PlainArc) (held : Held count letters arcs w₀ base plain) (few : letters ≤ 64) (ws : Within count set) (l : ℕ) (hl : l < letters) where
-  Went : ℕ → Type 0
-  Went j = (s t : ℕ) × T (inSet set s) × Moves arcs s (some l) t × Run (Moves arcs) t [] j
+  -- a turn: what leads from c, as the words tell it now, has joined
+  module _ {w₀ w w' : List ℕ} {acc : ℕ} {set : List ℕ} {c met c' : ℕ} {Own : ℕ → ℕ → Type 0} (met' : ℕ) (h : c < 256) (k : Stepping w₀ acc set c w met) (kk : Kept acc (acc + 256) w w')
+      (f : (p j : ℕ) → p < 64 → T (inSet (setOf w' acc met' p) j) ↔ (T (inSet (setOf w acc met p) j) ⊎ Own p j)) (own : (p j : ℕ) → Own p j ↔ From c p j) (n : Next set (c + 1) c') where
+    on : (p j : ℕ) → p < 64 → T (inSet (setOf w acc met p) j) ⊎ Own p j → Onward set c' p j
+    on p j l (inl t) = let o = (k .sets p j l) .0 t in let a = o .below in let b = n .low in record { source = o .source; lives = o .lives; below = omega arith; leads = o .leads }
+    on p j l (inr a) = let b = n .low in record { source = c; lives = k .live h; below = omega arith; leads = (own p j) .0 a }
 
-  went : (j : ℕ) → T (inSet (setOf w acc met l) j) ↔ Went j
-  unfolding Went
-  went j = (
-    λ t. let o = (k .sets l j (omega arith)) .0 t in
-        let m = (held .covers (o .source) l j (ws (o .source) (o .lives)) hl) .0 (o .among) in
-        (o .source, m .0, o .lives, m .1, m .2),
-    λ p. (k .sets l j (omega arith)) .1 (record {
-      source = p .0;
-      lives = p .2;
-      below = omega (arith, ws (p .0) (p .2));
-      among = (held .covers (p .0) l j (ws (p .0) (p .2)) hl) .1 (p .1, p .3, p .4);
-    }),
-  )
+    back : (p j : ℕ) → p < 64 → (o : Onward set c' p j) → Dec (o .source ≡ c) → Dec (o .source < c) → T (inSet (setOf w acc met p) j) ⊎ Own p j
+    back p j l o (yes e) d = inr ((own p j) .1 (subst (λ (x : ℕ). From x p j) e (o .leads)))
+    back p j l o (no q) (yes m) = inl ((k .sets p j l) .1 (record { source = o .source; lives = o .lives; below = m; leads = o .leads }))
+    back p j l o (no q) (no m) = absurd (n .none (o .source) (omega arith) (o .below) (o .lives))
 
-  same : (j : ℕ) → T (inSet (setOf w acc met l) j) ↔ T (in? (byLetter count arcs (view count set) l) j)
-  unfolding Went
-  same j = (
-    λ t. let p = (went j) .0 t in (byLetter-iff count arcs (held .within) (view count set) l j) .1 (p .0, p .1, (in-view count set (p .0)) .1 (ws (p .0) (p .2), p .2), p .3, p .4),
-    λ t. let p = (byLetter-iff count arcs (held .within) (view count set) l j) .0 t in (went j) .1 (p .0, p .1, (in-view count set (p .0)) .0 (p .2) .1, p .3, p .4),
-  )
+    pub stepping-more : Stepping w₀ acc set c' w' met'
+    stepping-more = record {
+      high = n .high;
+      live = n .member;
+      kept = kept-then (k .kept) kk;
+      sets = λ p j l. (λ t. on p j l ((f p j l) .0 t), λ o. (f p j l) .1 (back p j l o (ℕ-discrete (o .source) c) (decLt (o .source) c)));
+    }
 
-  pub stepped : (view count (setOf w acc met l) ≡ byLetter count arcs (view count set) l) × Within count (setOf w acc met l)
-  unfolding Went
-  stepped = (
-    view-is count (setOf w acc met l) (byLetter count arcs (view count set) l) (length-byLetter count arcs (held .within) (view count set) l) (λ j g. same j),
-    λ j t. let p = (went j) .0 t in run-below count arcs (held .within) (held .within _ (p .3)) (p .4),
-  )
+  -- THE LAW. The sets that a step leaves are those behind one more letter
+  module _ {w₀ w : List ℕ} {acc count : ℕ} {set : List ℕ} {c met : ℕ} (h : count ≤ c) (k : Stepping w₀ acc set c w met)
+      (letters : ℕ) (arcs : List PlainArc) (held : Held count letters arcs From) (few : letters ≤ 64) (ws : Within count set) (l : ℕ) (hl : l < letters) where
+    Went : ℕ → Type 0
+    Went j = (s t : ℕ) × T (inSet set s) × Moves arcs s (some l) t × Run (Moves arcs) t [] j
+
+    went : (j : ℕ) → T (inSet (setOf w acc met l) j) ↔ Went j
+    unfolding Went
+    went j = (
+      λ t. let o = (k .sets l j (omega arith)) .0 t in
+          let m = (held .covers (o .source) l j (ws (o .source) (o .lives)) hl) .0 (o .leads) in
+          (o .source, m .0, o .lives, m .1, m .2),
+      λ p. (k .sets l j (omega arith)) .1 (record {
+        source = p .0;
+        lives = p .2;
+        below = omega (arith, ws (p .0) (p .2));
+        leads = (held .covers (p .0) l j (ws (p .0) (p .2)) hl) .1 (p .1, p .3, p .4);
+      }),
+    )
+
+    same : (j : ℕ) → T (inSet (setOf w acc met l) j) ↔ T (in? (byLetter count arcs (view count set) l) j)
+    unfolding Went
+    same j = (
+      λ t. let p = (went j) .0 t in (byLetter-iff count arcs (held .within) (view count set) l j) .1 (p .0, p .1, (in-view count set (p .0)) .1 (ws (p .0) (p .2), p .2), p .3, p .4),
+      λ t. let p = (byLetter-iff count arcs (held .within) (view count set) l j) .0 t in (went j) .1 (p .0, p .1, (in-view count set (p .0)) .0 (p .2) .1, p .3, p .4),
+    )
+
+    pub stepped : (view count (setOf w acc met l) ≡ byLetter count arcs (view count set) l) × Within count (setOf w acc met l)
+    unfolding Went
+    stepped = (
+      view-is count (setOf w acc met l) (byLetter count arcs (view count set) l) (length-byLetter count arcs (held .within) (view count set) l) (λ j g. same j),
+      λ j t. let p = (went j) .0 t in run-below count arcs (held .within) (held .within _ (p .3)) (p .4),
+    )

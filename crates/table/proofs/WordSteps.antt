@@ -19,15 +19,15 @@ use Rattle.automata.specs.Unfolding.{plainArcs, spelledOr}
 use Rattle.automata.specs.Words.{letterWith, spelling}
 use Rattle.automata.proofs.ListLaws.{only-iff}
 use Rattle.format.specs.Letters.{letterFrom, letterNumber}
+use Rattle.format.specs.declared.Counts.{Counts}
 use Rattle.format.specs.declared.letters.Letter.{Letter}
 use Rattle.format.specs.declared.letters.Letter.the-variants.{At, None}
 use Rattle.memory.specs.Frame.{Kept}
 use Rattle.memory.proofs.Laws.{kept-same, kept-then}
 use Rattle.sets.specs.Sets.{Within, view}
 use Rattle.sets.proofs.Laws.{empty-set, table-ext}
-use Rattle.table.specs.Stepping.{Held, Room, Starts}
+use Rattle.table.specs.FileSteps.{Outgoing}
 use Rattle.table.specs.Words.{Built, letterSets, liveBytes}
-use Rattle.table.proofs.BlockFrame.{block-kept, held-kept}
 
 -- ---- the letter that a byte stands for
 -- a letter's number, where there is one, moved by i
@@ -116,16 +116,16 @@ module _ {x : Automaton} {word w₀ w : List ℕ} {base count plain : ℕ} {set�
   rest h = rw (add-one i) (drop-cons word i 0 h)
 
   -- a turn with a letter
-  pub walking-more : {w' next : List ℕ} {l : ℕ} → Room w₀ base letterSets → Starts w₀ base count plain → letters x ≤ 64 → i < length word → letterNumber (getD word i 0) (x .alphabet) ≡ At l
-      → Kept letterSets (letterSets + 256) w w'
-      → ((letters : ℕ) (arcs : List PlainArc) → Held count letters arcs w base plain → letters ≤ 64 → Within count set → l < letters → (view count next ≡ byLetter count arcs (view count set) l) × Within count next)
+  pub walking-more : {file : List ℕ} {c : Counts} {w' next : List ℕ} {l : ℕ} → ((L : ℕ) → Built x L w₀ base count plain → Outgoing file c w base count plain (letters x) (plainArcs x L))
+      → letters x ≤ 64 → i < length word → letterNumber (getD word i 0) (x .alphabet) ≡ At l → Kept letterSets (letterSets + 256) w w'
+      → ((letters : ℕ) (arcs : List PlainArc) → Outgoing file c w base count plain letters arcs → letters ≤ 64 → Within count set → l < letters → (view count next ≡ byLetter count arcs (view count set) l) × Within count next)
       → Walking x word w₀ base count plain set₀ w' next (i + 1)
-  walking-more {l = l} r s few h e k f = record {
+  walking-more {l = l} o few h e k f = record {
     few = omega arith;
     kept = kept-then (v .kept) k;
     live = λ L b z.
         let p = v .live L b z in
-        let q = f (letters x) (plainArcs x L) (held-kept (block-kept (v .kept) (r .apart)) s (b .held (s .less))) few (p .1) (letter-lt (getD word i 0) l (x .alphabet) e) in
+        let q = f (letters x) (plainArcs x L) (o L b) few (p .1) (letter-lt (getD word i 0) l (x .alphabet) e) in
         (p .0 ∙ rw (rest h) (live-letter x L count (view count set) (getD word i 0) l (drop (i + 1) word) e) ∙ ap (λ (S : List Bool). liveBytes x L count S (drop (i + 1) word)) (sym (q .0)), q .1);
   }
 

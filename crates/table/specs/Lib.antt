@@ -1,4 +1,5 @@
 pub mod Stepping
+pub mod FileSteps
 pub mod Finals
 pub mod Words
 pub mod Membership

@@ -37,11 +37,15 @@ pub record Among (w : List ℕ) (base from to l j : ℕ) : Type 0 where
   pub letter : field w (arcsAt base) at / 256 ≡ l
   pub leads : T (related w base (field w (arcsAt base) at % 256) j)
 
--- the block stands for n configurations with these plain arcs: what is listed of configuration s by a letter leads where a plain arc
--- of s with that letter, and then a run of empty moves, does
-pub record Held (n letters : ℕ) (arcs : List PlainArc) (w : List ℕ) (base plain : ℕ) : Type 0 where
+-- what is listed of configuration s by letter l leads to j, of `count` configurations and `plain` arcs
+abbrev pub FromList : List ℕ → ℕ → ℕ → ℕ → ℕ → ℕ → ℕ → Type 0
+FromList w base count plain s l j = Among w base (startAt w base s) (endAt w base count plain s) l j
+
+-- `From` tells the plain arcs of n configurations: from s by letter l to j lead, by it, a plain arc of s with that letter and then a
+-- run of empty moves
+pub record Held (n letters : ℕ) (arcs : List PlainArc) (From : ℕ → ℕ → ℕ → Type 0) : Type 0 where
   pub within : (a : PlainArc) → List·Memᴰ a arcs → a .target < n
-  pub covers : (s l j : ℕ) → s < n → l < letters → Among w base (startAt w base s) (endAt w base n plain s) l j ↔ ((t : ℕ) × Moves arcs s (some l) t × Run (Moves arcs) t [] j)
+  pub covers : (s l j : ℕ) → s < n → l < letters → From s l j ↔ ((t : ℕ) × Moves arcs s (some l) t × Run (Moves arcs) t [] j)
 
 -- ---- what a step asks of the words, whatever they stand for
 -- the block and the 64 rows from acc on are there, and share no word

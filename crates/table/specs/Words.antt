@@ -10,14 +10,16 @@ use Rattle.automata.specs.Automaton.{Automaton, Run, WellFormed, letters}
 use Rattle.automata.specs.Live.{Moves, liveFrom, table}
 use Rattle.automata.specs.Unfolding.{configurations, plainArcs, spelledOr}
 use Rattle.automata.specs.Words.{spelling}
+use Rattle.explore.specs.Explores.{exploredOf}
 use Rattle.explore.specs.Map.{configs, mapEnd}
 use Rattle.explore.specs.Packed.{pack}
+use Rattle.explore.specs.declared.Explored.{Explored}
+use Rattle.explore.specs.declared.Explored.the-variants.{Tables, TooMany}
 use Rattle.format.specs.Decoding.{decoded}
-use Rattle.format.specs.Placed.{Lies}
-use Rattle.format.specs.Reading.{firstArc}
 use Rattle.format.specs.declared.Counts.{Counts}
 use Rattle.sets.specs.Rows.{related}
-use Rattle.table.specs.Stepping.{Held, Room, Starts}
+use Rattle.table.specs.FileSteps.{Findable, Steppable}
+use Rattle.table.specs.Stepping.{FromList, Held, Starts}
 
 -- where the sets of the letters stand
 abbrev pub letterSets : ℕ
@@ -29,20 +31,26 @@ pub record Built (x : Automaton) (L : ℕ) (w : List ℕ) (base k p : ℕ) : Typ
   pub ended : k ≤ L
   pub configured : take k (drop configs w) ≡ map pack (configurations x L)
   pub rows : (i j : ℕ) → i < k → T (related w base i j) ↔ Run (Moves (plainArcs x L)) i [] j
-  pub held : p ≤ 2048 → Held k (letters x) (plainArcs x L) w base p
+  pub held : p ≤ 2048 → Held k (letters x) (plainArcs x L) (FromList w base k p)
   pub starts : p ≤ 2048 → Starts w base k p
+
+-- what building answers and leaves: more than L configurations, or how many configurations and plain arcs there are, and their block
+abbrev pub BuiltAs : Automaton → ℕ → List ℕ → ℕ → Explored → Type 0
+BuiltAs x L w base TooMany = Unit {0}
+BuiltAs x L w base (Tables k p) = Built x L w base k p × Findable w k
+
+pub record Builds (x : Automaton) (L : ℕ) (w : List ℕ) (base : ℕ) (r : Explored) : Type 0 where
+  pub answer : r ≡ exploredOf x L
+  pub block : BuiltAs x L w base r
 
 -- the live set of a word of bytes, from the set S of the k configurations on: empty where a byte is no letter
 unfoldable pub liveBytes : Automaton → ℕ → ℕ → List Bool → List ℕ → List Bool
 liveBytes x L k S word = spelledOr (table k (λ _. false)) (liveFrom k (plainArcs x L) S) (spelling (x .alphabet) word)
 
--- a word can be judged: the arcs stand whole in the file, whose automaton is well formed and built, with at most 2,048 plain arcs; and
--- there is room for the sets of the letters
+-- a word can be judged: the automaton of the file is well formed and built, and a step can be taken
 pub record Ready (file : List ℕ) (c : Counts) (w : List ℕ) (base k p : ℕ) : Type 0 where
   pub few-letters : c .letters ≤ 64
-  pub lies : Lies (c .registers) (c .arcs) (firstArc c) file
   pub formed : WellFormed (decoded c file)
   pub built : Built (decoded c file) 256 w base k p
-  pub few-plain : p ≤ 2048
+  pub steps : Steppable file c w base letterSets k p
   pub above : mapEnd ≤ base
-  pub room : Room w base letterSets

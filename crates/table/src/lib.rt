@@ -1,8 +1,19 @@
 // table: live sets over the block that exploring leaves in lent words, and membership by them.
+ghost use mathlib.Core.Path.{_≡_};
+ghost use lib.ListN.{length};
+ghost use Rattle.table.specs.Membership.{membershipOf};
+use block::build;
+use explore::Explored;
+use words::judge_word;
 
+pub mod block;
+pub mod file_steps;
 pub mod finals;
 pub mod stepping;
 pub mod words;
+
+// Where the block of the automaton stands.
+const BLOCK: usize = 4992;
 
 // What membership answers: whether the word is accepted, with the number of configurations live after it; or the number of a
 // refusal and the automaton at fault.
@@ -10,4 +21,34 @@ pub enum Membership {
     Accepted(u64),
     Rejected(u64),
     Refused(u8, u8),
+}
+
+// Does the automaton of the file accept the word, and how many configurations are live after it? A word with a byte that is no
+// letter is rejected, and leaves none live. Refuses, in this order: fewer than 8,192 working words, 24 (the automaton at fault is 0);
+// a fault of the file, 1 to 9; more than 256 configurations, 21. The working words are free again afterwards, whatever they held
+// before. All configurations are numbered, the runs of empty moves among them are closed once, and the set of live configurations
+// goes from one letter of the word to the next.
+// Cost: one pass over the file of b bytes; for its k configurations, at most 256, one step for each operation of the m arcs; k * k
+// steps to close the rows; for each of the n bytes of the word one step for each plain arc of a live configuration, or, where there
+// are more than 2,048 plain arcs, one step for each operation of the arcs that leave its state. Together b + k * o + k * k + n * k * o,
+// where o is the number of operations and arcs of the file; nothing is allocated.
+pub fn accepts(file: &[u8], word: &[u8], work: &mut [u64]) -> Membership
+    ensures same { λ _. ⌜ length (now (work .exit)) ≡ length (now (work .entry)) ⌝ }
+    ensures answer { λ r. ⌜ r ≡ membershipOf (now (file .entry)) (now (word .entry)) (length (now (work .entry))) ⌝ }
+{
+    if work.len() < 8192 {
+        return Membership::Refused(24, 0);
+    }
+    let reading = format::read(file);
+    let format::Reading::Valid(c) = reading else {
+        return Membership::Refused(reading.number(), 1);
+    };
+    let Explored::Tables {
+        configurations: known,
+        plain,
+    } = build(file, c, work, BLOCK)
+    else {
+        return Membership::Refused(21, 1);
+    };
+    judge_word(file, c, word, work, BLOCK, known, plain)
 }

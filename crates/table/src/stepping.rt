@@ -12,7 +12,7 @@ ghost use Rattle.explore.specs.Map.{blockEnd};
 ghost use Rattle.memory.specs.Frame.{Kept};
 ghost use Rattle.sets.specs.Sets.{inSet, view, Within};
 ghost use Rattle.sets.specs.Rows.{related};
-ghost use Rattle.table.specs.Stepping.{setOf, endAt, Among, Held, Room, Starts};
+ghost use Rattle.table.specs.Stepping.{setOf, endAt, Among, FromList, Held, Room, Starts};
 
 // Where a block has its plain arcs and their starts, from its first word on.
 const ARCS: usize = 1024;
@@ -34,7 +34,7 @@ pub fn set_of(w: &[u64], acc: usize, met: u64, l: usize) -> [u64; 4]
 
 // The row of t joins the set of letter l. Answers the mask with l.
 // Cost: constant.
-fn into(w: &mut [u64], base: usize, acc: usize, l: usize, t: usize, met: u64) -> u64
+pub fn into(w: &mut [u64], base: usize, acc: usize, l: usize, t: usize, met: u64) -> u64
     requires { ⌜ (l < 64) × ((acc + 4 * l + 4 ≤ length (now w)) × (base + 4 * t + 4 ≤ length (now w))) ⌝ }
     ensures kept { λ _. ⌜ Kept (acc + 4 * l) (acc + 4 * l + 4) (now (w .entry)) (now (w .exit)) ⌝ }
     ensures set { λ r. ⌜ ((p j : ℕ) → inSet (setOf (now (w .exit)) acc r p) j ≡ (inSet (setOf (now (w .entry)) acc met p) j || (eqb p l && related (now (w .entry)) base t j))) ⌝ }
@@ -95,7 +95,7 @@ pub fn step(
 ) -> u64
     requires { ⌜ Room (now w) base acc × Starts (now w) base count plain ⌝ }
     ensures kept { λ _. ⌜ Kept acc (acc + 256) (now (w .entry)) (now (w .exit)) ⌝ }
-    ensures set { λ r. ⌜ ((letters : ℕ) (arcs : List PlainArc) → Held count letters arcs (now (w .entry)) base plain → letters ≤ 64 → Within count set → (l : ℕ) → l < letters
+    ensures set { λ r. ⌜ ((letters : ℕ) (arcs : List PlainArc) → Held count letters arcs (FromList (now (w .entry)) base count plain) → letters ≤ 64 → Within count set → (l : ℕ) → l < letters
         → (view count (setOf (now (w .exit)) acc r l) ≡ byLetter count arcs (view count set) l) × Within count (setOf (now (w .exit)) acc r l)) ⌝ }
 {
     let mut met: u64 = 0;

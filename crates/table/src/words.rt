@@ -2,15 +2,15 @@
 ghost use mathlib.Core.Path.{_≡_};
 ghost use mathlib.Core.List.{List};
 ghost use Prim.Native.Nat.{ℕ, _+_, _≤_, _<_};
-ghost use lib.ListN.{length};
 ghost use Rattle.automata.specs.Live.{PlainArc, byLetter};
 ghost use Rattle.format.specs.Decoding.{decoded};
 ghost use Rattle.memory.specs.Frame.{Kept};
 ghost use Rattle.sets.specs.Sets.{view, Within};
-ghost use Rattle.table.specs.Stepping.{Held, Room, Starts};
+ghost use Rattle.table.specs.FileSteps.{Outgoing, Steppable};
 ghost use Rattle.table.specs.Words.{letterSets, Built, Ready, liveBytes};
 ghost use Rattle.table.specs.Membership.{judged};
 use super::Membership;
+use super::file_steps::step_file;
 use super::finals::final_set;
 use super::stepping::set_of;
 use super::stepping::step;
@@ -20,9 +20,12 @@ use format::letters::Letter;
 // Where the sets of the letters stand.
 const LETTER_SETS: usize = 4480;
 
-// The live set after the letter l.
-// Cost: one row for each arc of a live configuration.
+// The live set after the letter l: by the listed arcs where all plain arcs are listed, else by the arcs in the file.
+// Cost: one row for each arc of a live configuration; and, where they are not listed, one step for each operation of the arcs that
+// leave its state, and a look into the table of configurations for each that passes.
 fn step_letter(
+    file: &[u8],
+    c: Counts,
     w: &mut [u64],
     base: usize,
     count: usize,
@@ -30,17 +33,21 @@ fn step_letter(
     set: [u64; 4],
     l: usize,
 ) -> [u64; 4]
-    requires { ⌜ (l < 64) × (Room (now w) base letterSets × Starts (now w) base count plain) ⌝ }
+    requires { ⌜ (l < 64) × Steppable (now file) c (now w) base letterSets count plain ⌝ }
     ensures kept { λ _. ⌜ Kept letterSets (letterSets + 256) (now (w .entry)) (now (w .exit)) ⌝ }
-    ensures set { λ r. ⌜ ((letters : ℕ) (arcs : List PlainArc) → Held count letters arcs (now (w .entry)) base plain → letters ≤ 64 → Within count set → l < letters
+    ensures set { λ r. ⌜ ((letters : ℕ) (arcs : List PlainArc) → Outgoing (now (file .entry)) c (now (w .entry)) base count plain letters arcs → letters ≤ 64 → Within count set → l < letters
         → (view count r ≡ byLetter count arcs (view count set) l) × Within count r) ⌝ }
 {
-    let met = step(w, base, LETTER_SETS, count, plain, set);
+    if plain <= 2048 {
+        let met = step(w, base, LETTER_SETS, count, plain, set);
+        return set_of(w, LETTER_SETS, met, l);
+    }
+    let met = step_file(file, c, w, base, LETTER_SETS, count, set);
     set_of(w, LETTER_SETS, met, l)
 }
 
 // The live set of a word, from the set `from` on, of the automaton whose file has the counts c; empty where a byte is no letter.
-// Cost: for each byte, one row for each arc of a live configuration, and at most one look at each letter.
+// Cost: for each byte what `step_letter` takes, and at most one look at each letter.
 pub fn walk_word(
     file: &[u8],
     c: Counts,
@@ -51,7 +58,7 @@ pub fn walk_word(
     plain: usize,
     from: [u64; 4],
 ) -> [u64; 4]
-    requires { ⌜ (c .letters ≤ 64) × ((12 + c .letters ≤ length (now file)) × (Room (now w) base letterSets × Starts (now w) base count plain)) ⌝ }
+    requires { ⌜ (c .letters ≤ 64) × Steppable (now file) c (now w) base letterSets count plain ⌝ }
     ensures kept { λ _. ⌜ Kept letterSets (letterSets + 256) (now (w .entry)) (now (w .exit)) ⌝ }
     ensures set { λ r. ⌜ ((L : ℕ) → Built (decoded c (now (file .entry))) L (now (w .entry)) base count plain → Within count from
         → (view count r ≡ liveBytes (decoded c (now (file .entry))) L count (view count from) (now (word .entry))) × Within count r) ⌝ }
@@ -62,7 +69,7 @@ pub fn walk_word(
         let Letter::At(l) = format::letters::letter_number(c, file, word[i]) else {
             return [0; 4];
         };
-        let next = step_letter(w, base, count, plain, set, l as usize);
+        let next = step_letter(file, c, w, base, count, plain, set, l as usize);
         set = next;
         i += 1;
     }

@@ -2,14 +2,14 @@
 -- proofs/Onward.antt). The measure is how far c is from 256.
 use Prim.Native.Nat.{_-_}
 use native.Mathlib.Omega.{arith}
-use Rattle.table.specs.Stepping.{Room, startAt}
-use Rattle.table.proofs.BlockFrame.{block-kept, end-few, end-kept, room-kept}
+use Rattle.table.specs.Stepping.{FromList, Room, startAt}
+use Rattle.table.proofs.BlockFrame.{block-kept, end-few, end-kept, list-kept, room-kept}
 use Rattle.table.proofs.Onward.{Stepping, stepped, stepping-more, stepping-start}
 use Rattle.table.proofs.stepping.step.Statement.{statement}
 use Rattle.table.proofs.stepping.step.Tie as tie
 
 abbrev Inv-loop : tie.InvT-loop
-Inv-loop w₀ base acc count plain set met₀ c₀ w met c = Stepping w₀ base acc count plain set c w met
+Inv-loop w₀ base acc count plain set met₀ c₀ w met c = Stepping (FromList w₀ base count plain) w₀ acc set c w met
 
 abbrev μ-loop : tie.MeasureT-loop
 μ-loop w₀ base acc count plain set met₀ c₀ w met c = 256 - c
@@ -18,7 +18,7 @@ room-at : (c : tie.After-get16-arg Inv-loop μ-loop) → Room (c .before .before
 room-at c = let l = c .before .before in let r = l .before .before .before .pre .0 in room-kept (block-kept (l .loop .inv .kept) (r .apart)) r
 
 loop-holds : tie.Need-loop-holds Inv-loop μ-loop
-loop-holds c = stepping-start _ _ _ _ _ (c .next-live .ensures)
+loop-holds c = stepping-start _ _ _ (c .next-live .ensures)
 
 add-get16 : tie.Need-add-get16 Inv-loop μ-loop
 add-get16 c = omega (arith, room-at c)
@@ -54,14 +54,17 @@ loop-again c =
     let g = e .before .before in
     let i = g .before .before in
     let l = i .before in
-    let p = l .before .before .before .pre in
-    stepping-more (v .visit .result) (p .0) (p .1) (i .loop-test .taken) (l .loop .inv) (g .get16 .ensures .0) (e .end-of .ensures) (v .visit .ensures .0) (v .visit .ensures .1) (c .next-live2 .ensures)
+    let b = l .before .before .before in
+    let p = b .pre in
+    stepping-more (FromList (b .args .w .now) (b .args .base) (b .args .count) (b .args .plain)) (v .visit .result) (omega (arith, i .loop-test .taken, p .1 .few)) (l .loop .inv) (v .visit .ensures .0) (v .visit .ensures .1)
+    (list-kept (block-kept (l .loop .inv .kept) (p .0 .apart)) (l .loop .c) (p .1) (i .loop-test .taken) (g .get16 .ensures .0) (e .end-of .ensures))
+    (c .next-live2 .ensures)
 
 same-length : tie.Need-same-length Inv-loop μ-loop
 same-length c = c .before .loop .inv .kept .long
 
 returns : tie.Need-returns Inv-loop μ-loop
-returns c = let l = c .before in (l .loop .inv .kept, stepped (c .loop-test .left) (l .loop .inv))
+returns c = let l = c .before in (l .loop .inv .kept, stepped _ (c .loop-test .left) (l .loop .inv))
 
 pub step-spec : {M : Type 1} → statement M
 step-spec =

@@ -14,10 +14,10 @@ use Rattle.table.proofs.words.judge_word.Statement.{statement}
 use Rattle.table.proofs.words.judge_word.Tie as tie
 
 final-set-requires : tie.Need-final-set-requires
-final-set-requires c κs = let r = c .before .before .before .before .pre in (r .built .ended, (r .few-letters, (omega (arith, r .built .ended, r .above, r .room .block), ready-flags r)))
+final-set-requires c κs = let r = c .before .before .before .before .pre in (r .built .ended, (r .few-letters, (omega (arith, r .built .ended, r .above, r .steps .room .block), ready-flags r)))
 
 walk-word-requires : tie.Need-walk-word-requires
-walk-word-requires c κs = let r = c .before .before .before .before .before .before .before .before .pre in (r .few-letters, (omega (arith, r .lies .fits), (r .room, r .built .starts (r .few-plain))))
+walk-word-requires c κs = let r = c .before .before .before .before .before .before .before .before .pre in (r .few-letters, r .steps)
 
 -- what the word leaves
 answer : (c : tie.After-meets) → let s = c .before .before .before .before .before .before .before .before .before .before .before .before .before in let a = s .args in

@@ -10,7 +10,8 @@ use Rattle.format.specs.Letters.{letterNumber}
 use Rattle.format.specs.Reading.{letterBytes}
 use Rattle.format.specs.declared.letters.Letter.the-variants.{At}
 use Rattle.format.proofs.Steps.{letters-length}
-use Rattle.table.proofs.BlockFrame.{block-kept, room-kept, starts-kept}
+use Rattle.table.proofs.FileCovers.{built-outgoing}
+use Rattle.table.proofs.FileVisits.{steppable-kept}
 use Rattle.table.proofs.WordSteps.{Walking, letter-lt, walking-end, walking-foreign, walking-more, walking-start}
 use Rattle.table.proofs.words.walk_word.Statement.{statement}
 use Rattle.table.proofs.words.walk_word.Tie as tie
@@ -45,8 +46,7 @@ step-letter-requires c κs =
     let l = f .before .before .before .before .before in
     let s = l .before .before .before .before in
     let p = s .pre in
-    let same = block-kept (l .loop .inv .kept) (p .1 .1 .0 .apart) in
-    (omega (arith, letter-lt _ _ _ (letter f), letters-length (s .args .c) (s .args .file .now) (p .1 .0), p .0), (room-kept same (p .1 .1 .0), starts-kept same (p .1 .1 .1)))
+    (omega (arith, letter-lt _ _ _ (letter f), letters-length (s .args .c) (s .args .file .now) (omega (arith, p .1 .walkable .lies .fits)), p .0), steppable-kept (omega arith) (l .loop .inv .kept) (p .1))
 
 loop-again : tie.Need-loop-again Inv-loop μ-loop
 unfolding decoded
@@ -57,7 +57,8 @@ loop-again c =
     let l = i .before in
     let b = l .before .before .before .before in
     let p = b .pre in
-    walking-more (l .loop .inv) (p .1 .1 .0) (p .1 .1 .1) (omega (arith, letters-length (b .args .c) (b .args .file .now) (p .1 .0), p .0)) (i .loop-test .taken) (letter f) (s .step-letter .ensures .0) (s .step-letter .ensures .1)
+    walking-more (l .loop .inv) (λ L built. built-outgoing (b .args .file .now) (b .args .c) (omega arith) (p .1) (l .loop .inv .kept) built)
+    (omega (arith, letters-length (b .args .c) (b .args .file .now) (omega (arith, p .1 .walkable .lies .fits)), p .0)) (i .loop-test .taken) (letter f) (s .step-letter .ensures .0) (s .step-letter .ensures .1)
 
 same-length-2 : tie.Need-same-length-2 Inv-loop μ-loop
 same-length-2 c = c .before .loop .inv .kept .long

@@ -1,0 +1,79 @@
+-- Accepting: a valid file's automaton, once it is built, can be judged; and what membership answers in each case.
+use mathlib.Core.Path.{_∙_, _≡_, ap, refl, subst, sym}
+use mathlib.Core.Logic.{_↔_, inl}
+use mathlib.Core.Bool.{cond}
+use mathlib.Core.List.{List}
+use Prim.Native.Nat.{_*_, _+_, _<_, _≤_, ℕ}
+use native.Mathlib.Omega.{arith}
+use borrow.Author.Tests.{le-ltb, lt-ltb}
+use lib.Dec.{T}
+use lib.ListN.{length}
+use Rattle.automata.specs.Automaton.{Automaton, WellFormed, letters}
+use Rattle.explore.specs.Arcs.{Indexed, Linked, Walkable}
+use Rattle.explore.specs.Explores.{Explores, exploredOf}
+use Rattle.explore.specs.Map.{Placed, mapEnd}
+use Rattle.explore.specs.declared.Explored.the-variants.{Tables, TooMany}
+use Rattle.explore.proofs.Tabling.{configured-kept}
+use Rattle.format.specs.Decoding.{automatonOf, decoded}
+use Rattle.format.specs.Reading.{numberOf, readingOf}
+use Rattle.format.specs.declared.Counts.{Counts}
+use Rattle.format.specs.declared.Reading.{Reading}
+use Rattle.format.specs.declared.Reading.the-variants.{Refused as Fault, Valid}
+use Rattle.format.proofs.Steps.{letters-length}
+use Rattle.format.proofs.ValidLaws.{valid-decoded, valid-lies, valid-ranges, valid-wellFormed}
+use Rattle.memory.specs.Frame.{Kept}
+use Rattle.sets.specs.Rows.{Closure, Link, related}
+use Rattle.table.specs.FileSteps.{Findable}
+use Rattle.table.specs.Membership.{judged, membershipOf, unlessFault}
+use Rattle.table.specs.Words.{Builds, Built, Ready, letterSets}
+use Rattle.table.specs.declared.Membership.{Membership}
+use Rattle.table.specs.declared.Membership.the-variants.{Refused}
+use Rattle.table.proofs.Building.{explored-built}
+use Rattle.table.proofs.FileCovers.{built-findable}
+use Rattle.table.proofs.Judging.{judge-beyond}
+
+-- ---- building
+few-letters : (file : List ℕ) (c : Counts) → c .letters ≤ 64 → Walkable c file → letters (decoded c file) ≤ 255
+unfolding decoded
+few-letters file c h y = omega (arith, letters-length c file (omega (arith, y .lies .fits)))
+
+-- what exploring leaves, with its rows closed
+pub builds-tables : (file : List ℕ) (c : Counts) {w w' : List ℕ} {base k p : ℕ} → c .letters ≤ 64 → Walkable c file → Placed w base → Explores (decoded c file) 256 w base (Tables k p)
+    → Kept base (base + 4 * k) w w' → ((i j : ℕ) → i < k → T (related w' base i j) ↔ Closure (Link k (related w base)) i j) → Builds (decoded c file) 256 w' base (Tables k p)
+builds-tables file c {w} {w'} {base} {k} {p} h y place found kept closed = record { answer = found .answer; block = (built, built-findable file c (y .lies) built (configured-kept (λ j l g. kept .below j (omega (arith, place .above))) (found .block .configured))) }
+  where
+    built : Built (decoded c file) 256 w' base k p
+    built = explored-built (decoded c file) 256 found (found .block .configured .few) (place .above) kept closed (few-letters file c h y)
+
+-- ---- a valid file
+pub valid-walkable : (file : List ℕ) (c : Counts) → readingOf file ≡ Valid c → Walkable c file
+valid-walkable file c e = let r = valid-ranges file c e in record { lies = valid-lies file c e; near = omega (arith, r .letters, r .states) }
+
+pub valid-few : (file : List ℕ) (c : Counts) → readingOf file ≡ Valid c → c .letters ≤ 64
+valid-few file c e = valid-ranges file c e .letters
+
+-- its automaton, once it is built from a place above the sets of the letters on, can be judged
+pub built-ready : {file w : List ℕ} {c : Counts} {base k p : ℕ} → readingOf file ≡ Valid c → Placed w base → letterSets + 256 ≤ base → Indexed c file w → Linked c file w
+    → Built (decoded c file) 256 w base k p → Findable w k → Ready file c w base k p
+built-ready {file} {w} {c} e place high i l b f = record {
+  few-letters = valid-few file c e;
+  formed = subst WellFormed (valid-decoded file c e) (valid-wellFormed file c e);
+  built = b;
+  steps = record { room = record { block = place .block; rows = omega (arith, place .block); apart = inl high }; starts = b .starts; walkable = valid-walkable file c e; indexed = i; linked = l; findable = f };
+  above = place .above;
+}
+
+-- ---- what is answered
+pub answer-short : (file word : List ℕ) (words : ℕ) → words < 8192 → Refused 24 0 ≡ membershipOf file word words
+unfolding membershipOf
+answer-short file word words h = rw (lt-ltb words 8192 h)
+
+pub answer-read : (file word : List ℕ) (words : ℕ) {r : Reading} → 8192 ≤ words → r ≡ readingOf file → unlessFault r (judged 256 (automatonOf file) word) ≡ membershipOf file word words
+unfolding membershipOf
+answer-read file word words h e = rw (le-ltb words 8192 h, e)
+
+pub answer-judged : (file word : List ℕ) (words : ℕ) {c : Counts} → 8192 ≤ words → Valid c ≡ readingOf file → judged 256 (decoded c file) word ≡ membershipOf file word words
+answer-judged file word words {c} h e = ap (λ (x : Automaton). judged 256 x word) (sym (valid-decoded file c (sym e))) ∙ answer-read file word words h e
+
+pub answer-beyond : (file word : List ℕ) (words : ℕ) {c : Counts} → 8192 ≤ words → Valid c ≡ readingOf file → TooMany ≡ exploredOf (decoded c file) 256 → Refused 21 1 ≡ membershipOf file word words
+answer-beyond file word words {c} h e t = sym (judge-beyond (decoded c file) 256 word t) ∙ answer-judged file word words h e

@@ -1,0 +1,130 @@
+// File steps: from a live set by one more letter, for all letters at once, straight from the arcs in the file. Where the plain
+// arcs are too many to be listed, each arc of a live configuration is performed again, and what it leads to is looked up.
+ghost use mathlib.Core.Path.{_≡_};
+ghost use mathlib.Core.Logic.{_↔_, _⊎_};
+ghost use mathlib.Core.List.{List, []};
+ghost use Prim.Native.Nat.{ℕ, _+_, _≤_, _<_};
+ghost use lib.Dec.{T};
+ghost use lib.ListN.{length, drop};
+ghost use Rattle.automata.specs.Lists.{prepend};
+ghost use Rattle.automata.specs.Live.{PlainArc, byLetter};
+ghost use Rattle.explore.specs.Arcs.{ArcAt, Indexed, Linked, Walkable};
+ghost use Rattle.explore.specs.Map.{mapEnd};
+ghost use Rattle.explore.specs.Packed.{hop};
+ghost use Rattle.memory.specs.Frame.{Kept};
+ghost use Rattle.sets.specs.Sets.{inSet, view, Within};
+ghost use Rattle.table.specs.Stepping.{setOf, Held, Room};
+ghost use Rattle.table.specs.FileSteps.{Led, FromFile, Findable};
+use super::stepping::into;
+use explore::Outcome;
+use explore::operations::pass;
+use format::Counts;
+use format::fields::byte;
+use memory::chains::find_word;
+use memory::get16;
+
+// Where exploring leaves the places of the arcs, their chains by state, and the configurations with their chains.
+const OFFSETS: usize = 2048;
+
+const ARC_NEXTS: usize = 2560;
+
+const ARC_HEADS: usize = 3072;
+
+const CONFIGURATIONS: usize = 3136;
+
+const CONFIGURATION_HEADS: usize = 3392;
+
+const CONFIGURATION_NEXTS: usize = 3520;
+
+// The arc at a place of the file, from the configuration `own`: where it has a letter and passes, the row of the configuration that
+// it leads to joins the set of its letter.
+// Cost: one step for each operation, and as many as configurations have the key of the one that is looked up.
+fn take_arc(
+    file: &[u8],
+    at: usize,
+    own: u64,
+    w: &mut [u64],
+    base: usize,
+    acc: usize,
+    known: usize,
+    met: u64,
+) -> u64
+    requires { ⌜ ArcAt (now file) at × ((mapEnd ≤ acc) × (Room (now w) base acc × Findable (now w) known)) ⌝ }
+    ensures kept { λ _. ⌜ Kept acc (acc + 256) (now (w .entry)) (now (w .exit)) ⌝ }
+    ensures set { λ r. ⌜ ((p j : ℕ) → p < 64 → T (inSet (setOf (now (w .exit)) acc r p) j) ↔ (T (inSet (setOf (now (w .entry)) acc met p) j) ⊎ Led (now (w .entry)) base known (prepend (hop (drop at (now (file .entry))) own) []) p j)) ⌝ }
+{
+    let letter = byte(file, at + 1);
+    if 64 <= letter {
+        return met;
+    }
+    let Outcome::Leaves(regs) = pass(file, at, own) else {
+        return met;
+    };
+    let key = regs + ((byte(file, at + 2) as u64) << 32);
+    let t = find_word(
+        w,
+        CONFIGURATIONS,
+        CONFIGURATION_HEADS,
+        CONFIGURATION_NEXTS,
+        known,
+        key,
+    );
+    if t < known {
+        return into(w, base, acc, letter, t, met);
+    }
+    met
+}
+
+// Every arc that leaves the state of configuration c, along its chain.
+// Cost: what `take_arc` takes for each of them.
+fn visit_file(
+    file: &[u8],
+    counts: Counts,
+    w: &mut [u64],
+    base: usize,
+    acc: usize,
+    known: usize,
+    c: usize,
+    met: u64,
+) -> u64
+    requires { ⌜ Walkable counts (now file) × (Indexed counts (now file) (now w) × Linked counts (now file) (now w)) ⌝ }
+    requires { ⌜ (c < known) × ((mapEnd ≤ acc) × (Room (now w) base acc × Findable (now w) known)) ⌝ }
+    ensures kept { λ _. ⌜ Kept acc (acc + 256) (now (w .entry)) (now (w .exit)) ⌝ }
+    ensures set { λ r. ⌜ ((p j : ℕ) → p < 64 → T (inSet (setOf (now (w .exit)) acc r p) j) ↔ (T (inSet (setOf (now (w .entry)) acc met p) j) ⊎ FromFile (now (file .entry)) counts (now (w .entry)) base known c p j)) ⌝ }
+{
+    let own = w[CONFIGURATIONS + c];
+    let mut out = met;
+    let mut j = get16(w, ARC_HEADS, (own >> 32) as usize);
+    while j < counts.arcs {
+        let at = get16(w, OFFSETS, j);
+        out = take_arc(file, at, own, w, base, acc, known, out);
+        j = get16(w, ARC_NEXTS, j);
+    }
+    out
+}
+
+// The live set after one more letter, for each letter, as `stepping::step` leaves it.
+// Cost: what `take_arc` takes for each arc that leaves the state of a live configuration.
+pub fn step_file(
+    file: &[u8],
+    counts: Counts,
+    w: &mut [u64],
+    base: usize,
+    acc: usize,
+    known: usize,
+    set: [u64; 4],
+) -> u64
+    requires { ⌜ Walkable counts (now file) × (Indexed counts (now file) (now w) × Linked counts (now file) (now w)) ⌝ }
+    requires { ⌜ (mapEnd ≤ acc) × (Room (now w) base acc × Findable (now w) known) ⌝ }
+    ensures kept { λ _. ⌜ Kept acc (acc + 256) (now (w .entry)) (now (w .exit)) ⌝ }
+    ensures set { λ r. ⌜ ((letters : ℕ) (arcs : List PlainArc) → Held known letters arcs (FromFile (now (file .entry)) counts (now (w .entry)) base known) → letters ≤ 64 → Within known set → (l : ℕ) → l < letters
+        → (view known (setOf (now (w .exit)) acc r l) ≡ byLetter known arcs (view known set) l) × Within known (setOf (now (w .exit)) acc r l)) ⌝ }
+{
+    let mut met: u64 = 0;
+    let mut c = sets::next_live(set, 0);
+    while c < known {
+        met = visit_file(file, counts, w, base, acc, known, c, met);
+        c = sets::next_live(set, c + 1);
+    }
+    met
+}
