@@ -44,7 +44,7 @@ ops-same c (suc p) (x ∷ y ∷ l) h e =
     ap (λ t. t ++ opsBytes (opsOf p l)) (op-same c x y (b .0)) ∙ rw (d, ops-same c p l (omega arith) (b .1))
 
 -- ---- an arc
-letter-same : (x : ℕ) → letterByte (letterOf x) ≡ x
+pub letter-same : (x : ℕ) → letterByte (letterOf x) ≡ x
 unfolding letterOf
 letter-same x = go (eqb x 255) refl
   where
@@ -75,7 +75,7 @@ arcs-same c (suc m) l h =
     ap (λ t. arcBytes (arcOf l) ++ t) (arcs-same c m rest (q .1)) ∙ arc-same c l (arc-seen c l (q .0))
 
 -- ---- the final flags
-flags-same : (l : List ℕ) → flags l ≡ true → map flagByte (map isFinal l) ≡ l
+pub flags-same : (l : List ℕ) → flags l ≡ true → map flagByte (map isFinal l) ≡ l
 unfolding flags
 flags-same [] e = refl
 flags-same (x ∷ l) e = let b = and-both (leb x 1) (flags l) e in one x (leb-true x 1 (b .0)) (flags-same l (b .1))

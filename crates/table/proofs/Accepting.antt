@@ -1,24 +1,22 @@
 -- Accepting: a valid file's automaton, once it is built, can be judged; and what membership answers in each case.
-use mathlib.Core.Path.{_∙_, _≡_, ap, refl, subst, sym}
+use mathlib.Core.Path.{_∙_, _≡_, ap, subst, sym}
 use mathlib.Core.Logic.{_↔_, inl}
-use mathlib.Core.Bool.{cond}
 use mathlib.Core.List.{List}
 use Prim.Native.Nat.{_*_, _+_, _<_, _≤_, ℕ}
 use native.Mathlib.Omega.{arith}
 use borrow.Author.Tests.{le-ltb, lt-ltb}
 use lib.Dec.{T}
-use lib.ListN.{length}
 use Rattle.automata.specs.Automaton.{Automaton, WellFormed, letters}
 use Rattle.explore.specs.Arcs.{Indexed, Linked, Walkable}
 use Rattle.explore.specs.Explores.{Explores, exploredOf}
-use Rattle.explore.specs.Map.{Placed, mapEnd}
+use Rattle.explore.specs.Map.{Placed}
 use Rattle.explore.specs.declared.Explored.the-variants.{Tables, TooMany}
 use Rattle.explore.proofs.Tabling.{configured-kept}
 use Rattle.format.specs.Decoding.{automatonOf, decoded}
-use Rattle.format.specs.Reading.{numberOf, readingOf}
+use Rattle.format.specs.Reading.{readingOf}
 use Rattle.format.specs.declared.Counts.{Counts}
 use Rattle.format.specs.declared.Reading.{Reading}
-use Rattle.format.specs.declared.Reading.the-variants.{Refused as Fault, Valid}
+use Rattle.format.specs.declared.Reading.the-variants.{Valid}
 use Rattle.format.proofs.Steps.{letters-length}
 use Rattle.format.proofs.ValidLaws.{valid-decoded, valid-lies, valid-ranges, valid-wellFormed}
 use Rattle.memory.specs.Frame.{Kept}
@@ -26,7 +24,6 @@ use Rattle.sets.specs.Rows.{Closure, Link, related}
 use Rattle.table.specs.FileSteps.{Findable}
 use Rattle.table.specs.Membership.{judged, membershipOf, unlessFault}
 use Rattle.table.specs.Words.{Builds, Built, Ready, letterSets}
-use Rattle.table.specs.declared.Membership.{Membership}
 use Rattle.table.specs.declared.Membership.the-variants.{Refused}
 use Rattle.table.proofs.Building.{explored-built}
 use Rattle.table.proofs.FileCovers.{built-findable}

@@ -1,15 +1,12 @@
 -- FileCovers: where the arcs of the file lead from a configuration is where its plain arcs do.
 use mathlib.Core.Path.{_∙_, _≡_, ap, refl, sym}
-use mathlib.Core.Logic.{_↔_}
-use mathlib.Core.List.{List, List·Memᴰ, Memᴰ·cast, Memᴰ·map, Memᴰ·of-map, [], map}
+use mathlib.Core.List.{List, Memᴰ·cast, Memᴰ·map, Memᴰ·of-map, [], map}
 use mathlib.Core.Option.{Option·some-injective, some}
 use Prim.Native.Nat.{_+_, _<_, _≤_, ℕ}
-use native.Mathlib.Omega.{arith}
-use lib.Dec.{T}
 use lib.ListN.{drop, getD, getElem?, length}
 use Rattle.automata.specs.Automaton.{Automaton, Configuration, Run, letters}
 use Rattle.automata.specs.Lists.{Each}
-use Rattle.automata.specs.Live.{Moves, PlainArc}
+use Rattle.automata.specs.Live.{Moves}
 use Rattle.automata.specs.Performing.{Move, successors}
 use Rattle.automata.specs.Unfolding.{configurations, plainArcs, sameConfiguration}
 use Rattle.automata.proofs.ListLaws.{each-at, each-mem, getElem?-lt}
@@ -26,7 +23,7 @@ use Rattle.format.specs.Placed.{Lies}
 use Rattle.format.specs.Reading.{firstArc}
 use Rattle.format.specs.declared.Counts.{Counts}
 use Rattle.memory.specs.Frame.{Kept}
-use Rattle.table.specs.FileSteps.{Findable, FromFile, Led, Outgoing, Steppable}
+use Rattle.table.specs.FileSteps.{Findable, FromFile, Outgoing, Steppable}
 use Rattle.table.specs.Stepping.{Held}
 use Rattle.table.specs.Words.{Built}
 use Rattle.table.proofs.BlockFrame.{block-kept, held-same, list-kept}

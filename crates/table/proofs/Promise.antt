@@ -9,14 +9,13 @@ use native.Mathlib.Omega.{arith}
 use borrow.Author.Tests.{le-ltb, lt-ltb, ne-eqb}
 use lib.Dec.{T, eqb}
 use lib.ListN.{length}
-use Rattle.automata.specs.Automaton.{Automaton, Reachable, WellFormed}
+use Rattle.automata.specs.Automaton.{Automaton, Reachable}
 use Rattle.automata.specs.Counting.{Apart, Counts, MoreThan}
 use Rattle.automata.specs.Unfolding.{acceptedBytes, configurations, liveCount}
 use Rattle.automata.specs.Words.{Language, LiveAfter}
 use Rattle.automata.proofs.Laws.{membership, reaching-more}
 use Rattle.format.specs.Decoding.{automatonOf}
 use Rattle.format.specs.Reading.{numberOf, readingOf}
-use Rattle.format.specs.declared.Counts.{Counts as FileCounts}
 use Rattle.format.specs.declared.Reading.{Reading}
 use Rattle.format.specs.declared.Reading.the-variants.{Refused as Fault, Valid}
 use Rattle.table.specs.Membership.{Told, judged, membershipOf, told, unlessFault}

@@ -1,6 +1,5 @@
 // The block of an automaton, from the bytes of its file: its configurations, its plain arcs where they fit, and its rows,
 // closed, so that row i has what empty moves lead to from configuration i.
-ghost use mathlib.Core.Path.{_≡_};
 ghost use Prim.Native.Nat.{_≤_};
 ghost use Rattle.explore.specs.Arcs.{Indexed, Linked, Walkable};
 ghost use Rattle.explore.specs.Map.{offsets, mapEnd, blockEnd, KeptBut, Placed};
@@ -13,7 +12,7 @@ use sets::rows::close_rows;
 
 // The block from `base` on of the automaton whose file has the counts c; or that it has more than 256 configurations. The places of
 // the arcs and their chains are left too.
-// Cost: what exploring takes, then one pass over all pairs of configurations for each configuration, 64 pairs at a time.
+// Cost: what exploring takes, then k * k unions of rows, where k is the number of configurations.
 pub fn build(file: &[u8], c: Counts, w: &mut [u64], base: usize) -> Explored
     requires { ⌜ (c .letters ≤ 64) × (Walkable c (now file) × Placed (now w) base) ⌝ }
     ensures kept { λ _. ⌜ KeptBut offsets mapEnd base (blockEnd base) (now (w .entry)) (now (w .exit)) ⌝ }

@@ -5,7 +5,7 @@ ghost use mathlib.Core.Logic.{_↔_, _⊎_};
 ghost use mathlib.Core.List.{List, []};
 ghost use Prim.Native.Nat.{ℕ, _+_, _≤_, _<_};
 ghost use lib.Dec.{T};
-ghost use lib.ListN.{length, drop};
+ghost use lib.ListN.{drop};
 ghost use Rattle.automata.specs.Lists.{prepend};
 ghost use Rattle.automata.specs.Live.{PlainArc, byLetter};
 ghost use Rattle.explore.specs.Arcs.{ArcAt, Indexed, Linked, Walkable};

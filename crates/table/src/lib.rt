@@ -28,10 +28,11 @@ pub enum Membership {
 // a fault of the file, 1 to 9; more than 256 configurations, 21. The working words are free again afterwards, whatever they held
 // before. All configurations are numbered, the runs of empty moves among them are closed once, and the set of live configurations
 // goes from one letter of the word to the next.
-// Cost: one pass over the file of b bytes; for its k configurations, at most 256, one step for each operation of the m arcs; k * k
-// steps to close the rows; for each of the n bytes of the word one step for each plain arc of a live configuration, or, where there
-// are more than 2,048 plain arcs, one step for each operation of the arcs that leave its state. Together b + k * o + k * k + n * k * o,
-// where o is the number of operations and arcs of the file; nothing is allocated.
+// Cost: b + k * o + k * k + n * (a + k * o) steps, where b is the number of bytes of the file, o that of its arcs and operations, a that
+// of its letters, k that of its configurations, 256 at most, and n that of the bytes of the word. An arc that passes costs besides a
+// look into the table of configurations: as many steps as configurations have the key of its target, k at most. Where there are at
+// most 2,048 plain arcs, the word costs no such looks, and a letter one step for each plain arc of a live configuration. Nothing is
+// allocated.
 pub fn accepts(file: &[u8], word: &[u8], work: &mut [u64]) -> Membership
     ensures same { λ _. ⌜ length (now (work .exit)) ≡ length (now (work .entry)) ⌝ }
     ensures answer { λ r. ⌜ r ≡ membershipOf (now (file .entry)) (now (word .entry)) (length (now (work .entry))) ⌝ }

@@ -7,7 +7,7 @@ use lib.ListN.{length}
 use Rattle.explore.specs.declared.Explored.{Explored}
 use Rattle.format.specs.Decoding.{decoded}
 use Rattle.format.specs.Reading.{numberOf}
-use Rattle.explore.proofs.Finding.{placed-kept}
+use Rattle.table.specs.Membership.{judged}
 use Rattle.table.specs.Words.{BuiltAs}
 use Rattle.table.specs.declared.Membership.the-variants.{Refused}
 use Rattle.table.proofs.Accepting.{answer-beyond, answer-judged, answer-read, answer-short, built-ready, valid-few, valid-walkable}
@@ -66,7 +66,8 @@ returns-4 c =
     let r = b .before .before .before .before .before in
     let i = r .before in
     let a = i .before .before .before .before .args in
-    (j .judge-word .ensures .0 .long ∙ b .build .ensures .0 .long, j .judge-word .ensures .1 ∙ answer-judged (a .file .now) (a .word .now) (length (a .work .now)) (i .if1 .left) (sym (v .1) ∙ r .read .ensures))
+    let judgement : j .judge-word .result ≡ judged 256 (decoded (v .0 .0) (a .file .now)) (a .word .now) = j .judge-word .ensures .1 in
+    (j .judge-word .ensures .0 .long ∙ b .build .ensures .0 .long, judgement ∙ answer-judged (a .file .now) (a .word .now) (length (a .work .now)) (i .if1 .left) (sym (v .1) ∙ r .read .ensures))
 
 pub accepts-spec : {M : Type 1} → statement M
 accepts-spec =

@@ -49,7 +49,8 @@ loop-again c =
     let l = i .before in
     let b = l .before .before .before .before in
     let p = b .pre in
-    stepping-more (FromFile (b .args .file .now) (b .args .counts) (b .args .w .now) (b .args .base) (b .args .known)) (v .visit-file .result) (omega (arith, i .loop-test .taken, p .1 .1 .1 .configured .few)) (l .loop .inv)
+    stepping-more (FromFile (b .args .file .now) (b .args .counts) (b .args .w .now) (b .args .base) (b .args .known))
+    {Own = FromFile (b .args .file .now) (b .args .counts) (l .loop .w) (b .args .base) (b .args .known) (l .loop .c)} (v .visit-file .result) (omega (arith, i .loop-test .taken, p .1 .1 .1 .configured .few)) (l .loop .inv)
     (v .visit-file .ensures .0) (v .visit-file .ensures .1)
     (from-kept (map-kept (p .1 .0) (p .1 .1 .0) (p .1 .1 .1 .configured .few) (l .loop .inv .kept)) (b .args .file .now) (b .args .counts) (l .loop .c) (i .loop-test .taken))
     (c .next-live2 .ensures)

@@ -2,7 +2,7 @@
 -- proofs/Onward.antt). The measure is how far c is from 256.
 use Prim.Native.Nat.{_-_}
 use native.Mathlib.Omega.{arith}
-use Rattle.table.specs.Stepping.{FromList, Room, startAt}
+use Rattle.table.specs.Stepping.{Among, FromList, Room, startAt}
 use Rattle.table.proofs.BlockFrame.{block-kept, end-few, end-kept, list-kept, room-kept}
 use Rattle.table.proofs.Onward.{Stepping, stepped, stepping-more, stepping-start}
 use Rattle.table.proofs.stepping.step.Statement.{statement}
@@ -56,7 +56,8 @@ loop-again c =
     let l = i .before in
     let b = l .before .before .before in
     let p = b .pre in
-    stepping-more (FromList (b .args .w .now) (b .args .base) (b .args .count) (b .args .plain)) (v .visit .result) (omega (arith, i .loop-test .taken, p .1 .few)) (l .loop .inv) (v .visit .ensures .0) (v .visit .ensures .1)
+    stepping-more (FromList (b .args .w .now) (b .args .base) (b .args .count) (b .args .plain))
+    {Own = Among (l .loop .w) (b .args .base) (g .get16 .result) (e .end-of .result)} (v .visit .result) (omega (arith, i .loop-test .taken, p .1 .few)) (l .loop .inv) (v .visit .ensures .0) (v .visit .ensures .1)
     (list-kept (block-kept (l .loop .inv .kept) (p .0 .apart)) (l .loop .c) (p .1) (i .loop-test .taken) (g .get16 .ensures .0) (e .end-of .ensures))
     (c .next-live2 .ensures)
 

@@ -1,0 +1,61 @@
+use mathlib.Core.Path.{_∙_, sym, refl}
+use borrow.Author.Needs.{needs}
+use Rattle.join.specs.Joining.{closedOf}
+use Rattle.join.proofs.close.Statement.{statement}
+use Rattle.join.proofs.FileLaws.{closed-valid}
+use Rattle.join.proofs.close.Tie as tie
+use Rattle.join.proofs.close.Reads as reads
+use Rattle.join.proofs.close.Lts as lts
+use Rattle.format.proofs.Reading.number.Reads as number-reads
+use Rattle.format.proofs.read.Reads as read-reads
+use Rattle.join.proofs.closures.repeat.Reads as repeat-reads
+
+-- src/lib.rt:46:9
+read-requires : tie.Need-read-requires
+read-requires c κs = search needs
+
+-- src/lib.rt:47:24
+enum-known-reading : tie.Need-enum-known-reading
+enum-known-reading c = search needs
+
+-- src/lib.rt:48:33
+enum-told : tie.Need-enum-told
+enum-told c = search needs
+
+-- src/lib.rt:48:33
+number-requires : tie.Need-number-requires
+number-requires c κs = search needs
+
+-- src/lib.rt:48:9
+returns : tie.Need-returns
+unfolding closedOf
+returns c = (rw (c .number .ensures, ← c .before .before .before .read .ensures, c .before .enum-told .given .1), refl)
+
+-- src/lib.rt:50:5
+repeat-requires : tie.Need-repeat-requires
+repeat-requires c κs = sym (c .before .before .before .before .read .ensures) ∙ c .before .before .reading .given .1
+
+-- src/lib.rt:42:1
+same-length : tie.Need-same-length
+same-length c = search needs
+
+-- src/lib.rt:42:1
+returns-2 : tie.Need-returns-2
+returns-2 c =
+    let u = c .before .before in
+    let told = u .before .before .before in
+    let valid = sym (told .before .before .read .ensures) ∙ told .reading .given .1 in
+    (u .repeat .ensures .0 ∙ sym (closed-valid _ _ valid), u .repeat .ensures .1)
+
+pub close-spec : {M : Type 1} → statement M
+close-spec =
+    tie.close
+    (tie.spec
+    read-requires
+    enum-known-reading
+    enum-told
+    number-requires
+    returns
+    repeat-requires
+    same-length
+    returns-2)

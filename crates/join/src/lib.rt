@@ -1,0 +1,51 @@
+// join: union, concatenation, intersection and closure of automata in files (document 01, 'Joining books').
+// Each call answers the length of the joined file, or a refusal's number and the automaton at fault. A refusal leaves the
+// output as it was lent; else the joined file stands at its front, and the bytes behind it are as they were lent.
+ghost use mathlib.Core.Path.{_≡_};
+ghost use lib.ListN.{length};
+ghost use Rattle.automata.specs.Joins.{union, closure};
+ghost use Rattle.format.specs.Decoding.{automatonOf};
+ghost use Rattle.format.specs.Encoding.{bytesOf};
+ghost use Rattle.writing.specs.Answers.{outputOf};
+ghost use Rattle.join.specs.Joining.{joinedOf, closedOf};
+use files::Files;
+use format::Reading;
+use writing::Written;
+
+mod answer;
+mod closures;
+mod files;
+mod finals;
+mod front;
+mod groups;
+mod unions;
+
+// Writes an automaton that accepts the words of either: a new state 0 with an empty move into each.
+// Refuses, in this order: 1 to 9, the first file's fault; 1 to 9, the second's; 10, the letter lists differ; 11, the joined
+// automaton beyond a limit on states or arcs; 25, the output shorter than the result.
+// Cost: one pass over each file to read it, and one to write it.
+pub fn union(first: &[u8], second: &[u8], out: &mut [u8]) -> Written
+    ensures answer { λ r. ⌜ r ≡ joinedOf union (now (first .entry)) (now (second .entry)) (length (now (out .entry))) ⌝ }
+    ensures output { λ r. ⌜ now (out .exit) ≡ outputOf r (bytesOf (union (automatonOf (now (first .entry))) (automatonOf (now (second .entry))))) (now (out .entry)) ⌝ }
+{
+    let files = files::read_files(first, second);
+    match files {
+        Files::Fault(number, automaton) => Written::Refused(number, automaton),
+        Files::Both(a, b) => unions::unite(out, a, first, b, second),
+    }
+}
+
+// Writes an automaton that accepts the finite sequences of the file's words: a new state 0, initial and final, an empty move
+// to the old initial state, and from each final state an empty move back to it, which clears the registers.
+// Refuses, in this order: 1 to 9, the file's fault; 11, the joined automaton beyond a limit on states or arcs; 25, the output
+// shorter than the result. Cost: one pass over the file to read it, and one to write it.
+pub fn close(file: &[u8], out: &mut [u8]) -> Written
+    ensures answer { λ r. ⌜ r ≡ closedOf (now (file .entry)) (length (now (out .entry))) ⌝ }
+    ensures output { λ r. ⌜ now (out .exit) ≡ outputOf r (bytesOf (closure (automatonOf (now (file .entry))))) (now (out .entry)) ⌝ }
+{
+    let reading = format::read(file);
+    let Reading::Valid(a) = reading else {
+        return Written::Refused(reading.number(), 1);
+    };
+    closures::repeat(out, a, file)
+}

@@ -1,0 +1,84 @@
+use mathlib.Core.Path.{_≡_}
+use mathlib.Core.List.{_∷_}
+use Prim.Native.Nat.{_+_, _-_, _≤_}
+use native.Mathlib.Nat.{add-zero}
+use native.Mathlib.Numerals.{add-one}
+use native.Mathlib.Omega.{arith}
+use lib.ListN.{length, getD, drop, drop-of-length-le}
+use lib.Seq.{drop-cons}
+use Rattle.writing.proofs.Placed.{Left, left-all, left-byte, left-none}
+use Rattle.writing.proofs.parts.write_copy.Statement.{statement}
+use Rattle.writing.proofs.parts.write_copy.Tie as tie
+use Rattle.writing.proofs.parts.write_copy.Reads as reads
+use Rattle.writing.proofs.parts.write_copy.Lts as lts
+
+abbrev Inv-loop : tie.InvT-loop
+Inv-loop out₀ at part i₀ out i = (i ≤ length part) × Left at part out₀ (at + i) (drop i part) out
+
+abbrev μ-loop : tie.MeasureT-loop
+μ-loop out₀ at part i₀ out i = length part - i
+
+-- src/parts.rt:62:5
+loop-holds : tie.Need-loop-holds Inv-loop μ-loop
+loop-holds c = (omega arith, rw add-zero (left-all (c .pre)))
+
+-- src/parts.rt:63:23
+shared-slice-read-out : tie.Need-shared-slice-read-out Inv-loop μ-loop
+shared-slice-read-out c = omega arith
+
+-- src/parts.rt:63:13
+add-out : tie.Need-add-out Inv-loop μ-loop
+add-out c = omega arith
+
+-- src/parts.rt:63:9
+slice-write-out : tie.Need-slice-write-out Inv-loop μ-loop
+slice-write-out c = omega (arith, c .before .before .loop .inv .1 .size)
+
+-- src/parts.rt:64:9
+add-i : tie.Need-add-i Inv-loop μ-loop
+add-i c = omega arith
+
+-- src/parts.rt:62:5
+loop-less : tie.Need-loop-less Inv-loop μ-loop
+loop-less c = omega arith
+
+-- src/parts.rt:62:5
+loop-again : tie.Need-loop-again Inv-loop μ-loop
+loop-again c =
+    let l = c .before .before .loop in
+    let a = c .before .before .before .args in
+    let part = a .part .now in
+    let e : a .at + (l .i + 1) ≡ a .at + l .i + 1 = omega arith in
+    let d : drop (l .i) part ≡ getD part (l .i) 0 ∷ drop (l .i + 1) part = rw add-one (drop-cons part (l .i) 0 (omega arith)) in
+    (omega arith, rw e (left-byte (getD part (l .i) 0) (drop (l .i + 1) part) (rw d at (l .inv .1))))
+
+-- src/parts.rt:66:5
+add-result : tie.Need-add-result Inv-loop μ-loop
+add-result c = omega arith
+
+-- src/parts.rt:57:1
+same-length : tie.Need-same-length Inv-loop μ-loop
+same-length c = c .before .loop .inv .1 .size
+
+-- src/parts.rt:57:1
+returns : tie.Need-returns Inv-loop μ-loop
+returns c =
+    let l = c .before .loop in
+    left-none (rw (drop-of-length-le (c .before .before .args .part .now) {i = l .i} (omega arith)) at (l .inv .1))
+
+pub write-copy-spec : {M : Type 1} → statement M
+write-copy-spec =
+    tie.close
+    (tie.spec
+    Inv-loop
+    μ-loop
+    loop-holds
+    shared-slice-read-out
+    add-out
+    slice-write-out
+    add-i
+    loop-less
+    loop-again
+    add-result
+    same-length
+    returns)

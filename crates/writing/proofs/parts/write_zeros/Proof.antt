@@ -1,0 +1,79 @@
+use mathlib.Core.Path.{_≡_}
+use Prim.Native.Nat.{suc, _+_, _-_, _≤_}
+use native.Mathlib.Nat.{add-zero}
+use native.Mathlib.Omega.{arith}
+use lib.ListN.{replicate, length-replicate}
+use Rattle.writing.proofs.Placed.{Left, left-all, left-byte, left-none}
+use Rattle.writing.proofs.parts.write_zeros.Statement.{statement}
+use Rattle.writing.proofs.parts.write_zeros.Tie as tie
+use Rattle.writing.proofs.parts.write_zeros.Reads as reads
+use Rattle.writing.proofs.parts.write_zeros.Lts as lts
+
+abbrev Inv-loop : tie.InvT-loop
+Inv-loop out₀ at n i₀ out i = (i ≤ n) × Left at (replicate n 0) out₀ (at + i) (replicate (n - i) 0) out
+
+abbrev μ-loop : tie.MeasureT-loop
+μ-loop out₀ at n i₀ out i = n - i
+
+-- src/parts.rt:75:5
+loop-holds : tie.Need-loop-holds Inv-loop μ-loop
+loop-holds c =
+    let n = c .args .n in
+    let e : n - 0 ≡ n = omega arith in
+    (omega arith, rw (add-zero, e) (left-all (rw length-replicate (c .pre))))
+
+-- src/parts.rt:76:13
+add-out : tie.Need-add-out Inv-loop μ-loop
+add-out c = omega arith
+
+-- src/parts.rt:76:9
+slice-write-out : tie.Need-slice-write-out Inv-loop μ-loop
+slice-write-out c = omega (arith, c .before .loop .inv .1 .size, c .before .before .pre)
+
+-- src/parts.rt:77:9
+add-i : tie.Need-add-i Inv-loop μ-loop
+add-i c = omega arith
+
+-- src/parts.rt:75:5
+loop-less : tie.Need-loop-less Inv-loop μ-loop
+loop-less c = omega arith
+
+-- src/parts.rt:75:5
+loop-again : tie.Need-loop-again Inv-loop μ-loop
+loop-again c =
+    let l = c .before .loop in
+    let a = c .before .before .args in
+    let e : a .at + (l .i + 1) ≡ a .at + l .i + 1 = omega arith in
+    let d : a .n - l .i ≡ suc (a .n - (l .i + 1)) = omega arith in
+    (omega arith, rw e (left-byte 0 (replicate (a .n - (l .i + 1)) 0) (rw d at (l .inv .1))))
+
+-- src/parts.rt:79:5
+add-result : tie.Need-add-result Inv-loop μ-loop
+add-result c = omega arith
+
+-- src/parts.rt:70:1
+same-length : tie.Need-same-length Inv-loop μ-loop
+same-length c = c .before .loop .inv .1 .size
+
+-- src/parts.rt:70:1
+returns : tie.Need-returns Inv-loop μ-loop
+returns c =
+    let l = c .before .loop in
+    let d : c .before .before .args .n - l .i ≡ 0 = omega arith in
+    left-none (rw d at (l .inv .1))
+
+pub write-zeros-spec : {M : Type 1} → statement M
+write-zeros-spec =
+    tie.close
+    (tie.spec
+    Inv-loop
+    μ-loop
+    loop-holds
+    add-out
+    slice-write-out
+    add-i
+    loop-less
+    loop-again
+    add-result
+    same-length
+    returns)
