@@ -12,9 +12,9 @@ use Rattle.format.specs.declared.Counts.{Counts}
 use Rattle.format.specs.Encoding.{arcBytes, arcsBytes, bytesOf, flagByte, headerBytes, sizes}
 use Rattle.format.specs.Reading.{firstArc}
 use Rattle.format.proofs.EncodingLaws.{bytes-length}
-use Rattle.join.proofs.Walking.{arcs-append, arcs-moved-length, entry-length, returning-length}
-use Rattle.join.proofs.MovedFits.{moved-states}
-use Rattle.join.proofs.FinalLaws.{returning}
+use Rattle.joining.proofs.Walking.{arcs-append, arcs-moved-length, entry-length, returning-length}
+use Rattle.joining.proofs.MovedFits.{moved-states}
+use Rattle.joining.proofs.FinalLaws.{returning}
 
 -- ---- any automaton, once its flags are known part by part
 bytes-from : (x : Automaton) → bytesOf x ≡ (headerBytes (sizes x) ++ x .alphabet) ++ (map flagByte (x .finals) ++ arcsBytes (x .arcs))

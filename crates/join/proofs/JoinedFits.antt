@@ -15,10 +15,10 @@ use Rattle.format.specs.Reading.{ascending}
 use Rattle.format.specs.Encoding.{sizes}
 use Rattle.format.proofs.Fitting.{ArcFits, fits-by, arcs-fit}
 use Rattle.automata.specs.Lists.{Each}
-use Rattle.join.specs.Joining.{beyond}
-use Rattle.join.proofs.Limits.{Few, FewOps, within}
-use Rattle.join.proofs.MovedFits.{Room, return-fits, arcs-moved, returns-fit, unmoved, empty-moves-fit, states-moved}
-use Rattle.join.proofs.EachLaws.{each-imply, each-append}
+use Rattle.joining.specs.Joining.{beyond}
+use Rattle.joining.proofs.Limits.{Few, FewOps, within}
+use Rattle.joining.proofs.MovedFits.{Room, return-fits, arcs-moved, returns-fit, unmoved, empty-moves-fit, states-moved}
+use Rattle.joining.proofs.EachLaws.{each-imply, each-append}
 
 -- ---- ranges and arcs make it so
 module _ (x : Automaton) (letters : length (x .alphabet) ≤ 64) (ascends : ascending (x .alphabet) ≡ true)

@@ -1,9 +1,2 @@
-pub mod EachLaws
-pub mod Limits
-pub mod AnswerLaws
-pub mod MovedFits
 pub mod JoinedFits
-pub mod Walking
-pub mod FileLaws
-pub mod FinalLaws
 pub mod JoinedBytes

@@ -7,17 +7,13 @@ ghost use Rattle.automata.specs.Joins.{union, closure};
 ghost use Rattle.format.specs.Decoding.{automatonOf};
 ghost use Rattle.format.specs.Encoding.{bytesOf};
 ghost use Rattle.writing.specs.Answers.{outputOf};
-ghost use Rattle.join.specs.Joining.{joinedOf, closedOf};
-use files::Files;
+ghost use Rattle.joining.specs.Joining.{joinedOf, closedOf};
 use format::Reading;
+use joining::files::Files;
+use joining::files::read_files;
 use writing::Written;
 
-mod answer;
 mod closures;
-mod files;
-mod finals;
-mod front;
-mod groups;
 mod unions;
 
 // Writes an automaton that accepts the words of either: a new state 0 with an empty move into each.
@@ -28,7 +24,7 @@ pub fn union(first: &[u8], second: &[u8], out: &mut [u8]) -> Written
     ensures answer { λ r. ⌜ r ≡ joinedOf union (now (first .entry)) (now (second .entry)) (length (now (out .entry))) ⌝ }
     ensures output { λ r. ⌜ now (out .exit) ≡ outputOf r (bytesOf (union (automatonOf (now (first .entry))) (automatonOf (now (second .entry))))) (now (out .entry)) ⌝ }
 {
-    let files = files::read_files(first, second);
+    let files = read_files(first, second);
     match files {
         Files::Fault(number, automaton) => Written::Refused(number, automaton),
         Files::Both(a, b) => unions::unite(out, a, first, b, second),

@@ -1,8 +1,8 @@
 use mathlib.Core.Path.{_∙_, sym, refl}
 use borrow.Author.Needs.{needs}
-use Rattle.join.specs.Joining.{closedOf}
+use Rattle.joining.specs.Joining.{closedOf}
 use Rattle.join.proofs.close.Statement.{statement}
-use Rattle.join.proofs.FileLaws.{closed-valid}
+use Rattle.joining.proofs.FileLaws.{closed-valid}
 use Rattle.join.proofs.close.Tie as tie
 use Rattle.join.proofs.close.Reads as reads
 use Rattle.join.proofs.close.Lts as lts

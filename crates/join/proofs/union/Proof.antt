@@ -2,11 +2,11 @@ use mathlib.Core.Path.{_∙_, refl, sym}
 use borrow.Author.Needs.{needs}
 use Rattle.automata.specs.Joins.{union}
 use Rattle.join.proofs.union.Statement.{statement}
-use Rattle.join.proofs.FileLaws.{both-joinable, joined-both, joined-fault}
+use Rattle.joining.proofs.FileLaws.{both-joinable, joined-both, joined-fault}
 use Rattle.join.proofs.union.Tie as tie
 use Rattle.join.proofs.union.Reads as reads
 use Rattle.join.proofs.union.Lts as lts
-use Rattle.join.proofs.files.read_files.Reads as read-files-reads
+use Rattle.joining.proofs.files.read_files.Reads as read-files-reads
 use Rattle.join.proofs.unions.unite.Reads as unite-reads
 
 -- src/lib.rt:29:9

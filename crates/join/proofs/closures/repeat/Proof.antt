@@ -10,21 +10,21 @@ use Rattle.format.specs.declared.Counts.{Counts}
 use Rattle.format.specs.Decoding.{automatonOf}
 use Rattle.format.specs.Encoding.{sizes}
 use Rattle.format.proofs.ValidLaws.{valid-fits, valid-ranges, valid-sizes}
-use Rattle.join.specs.Joining.{writtenOf}
+use Rattle.joining.specs.Joining.{writtenOf}
 use Rattle.join.proofs.closures.repeat.Statement.{statement}
 use Rattle.join.proofs.JoinedBytes.{closure-counts, closure-length}
 use Rattle.join.proofs.JoinedFits.{closure-fits, closure-ops}
-use Rattle.join.proofs.AnswerLaws.{decided-written, file-written, written-bytes}
-use Rattle.join.proofs.FinalLaws.{valid-lengths}
+use Rattle.joining.proofs.AnswerLaws.{decided-written, file-written, written-bytes}
+use Rattle.joining.proofs.FinalLaws.{valid-lengths}
 use Rattle.join.proofs.closures.repeat.Tie as tie
 use Rattle.join.proofs.closures.repeat.Reads as reads
 use Rattle.join.proofs.closures.repeat.Lts as lts
-use Rattle.join.proofs.answer.arcs_size.Reads as arcs-size-reads
-use Rattle.join.proofs.answer.decide.Reads as decide-reads
+use Rattle.joining.proofs.answer.arcs_size.Reads as arcs-size-reads
+use Rattle.joining.proofs.answer.decide.Reads as decide-reads
 use Rattle.join.proofs.closures.closure_counts.Reads as closure-counts-reads
 use Rattle.join.proofs.closures.return_size.Reads as return-size-reads
 use Rattle.join.proofs.closures.write_closure.Reads as write-closure-reads
-use Rattle.join.proofs.finals.count_finals.Reads as count-finals-reads
+use Rattle.joining.proofs.finals.count_finals.Reads as count-finals-reads
 
 -- the automaton, and the counts of its closure
 abbrev joined : tie.Start → Automaton

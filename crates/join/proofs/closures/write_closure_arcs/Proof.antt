@@ -12,14 +12,14 @@ use Rattle.format.proofs.ValidLaws.{valid-ranges, valid-sizes}
 use Rattle.writing.proofs.Placed.{appended-ends, written-then}
 use Rattle.join.proofs.closures.write_closure_arcs.Statement.{statement}
 use Rattle.join.proofs.JoinedBytes.{closure-arc-parts}
-use Rattle.join.proofs.Walking.{entry-length}
-use Rattle.join.proofs.FinalLaws.{returning}
+use Rattle.joining.proofs.Walking.{entry-length}
+use Rattle.joining.proofs.FinalLaws.{returning}
 use Rattle.join.proofs.closures.write_closure_arcs.Tie as tie
 use Rattle.join.proofs.closures.write_closure_arcs.Reads as reads
 use Rattle.join.proofs.closures.write_closure_arcs.Lts as lts
-use Rattle.join.proofs.finals.write_final_arcs.Reads as write-final-arcs-reads
-use Rattle.join.proofs.groups.write_entry.Reads as write-entry-reads
-use Rattle.join.proofs.groups.write_moved_arcs.Reads as write-moved-arcs-reads
+use Rattle.joining.proofs.finals.write_final_arcs.Reads as write-final-arcs-reads
+use Rattle.joining.proofs.groups.write_entry.Reads as write-entry-reads
+use Rattle.joining.proofs.groups.write_moved_arcs.Reads as write-moved-arcs-reads
 
 -- the parts
 abbrev parts : (s : tie.Start) → let x = automatonOf (s .args .file .now) in

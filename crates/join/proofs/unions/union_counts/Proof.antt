@@ -4,7 +4,7 @@ use Rattle.join.proofs.JoinedBytes.{union-counts}
 use Rattle.join.proofs.unions.union_counts.Tie as tie
 use Rattle.join.proofs.unions.union_counts.Reads as reads
 use Rattle.join.proofs.unions.union_counts.Lts as lts
-use Rattle.join.proofs.answer.larger.Reads as larger-reads
+use Rattle.joining.proofs.answer.larger.Reads as larger-reads
 
 -- src/union.rt:31:17
 add-t3 : tie.Need-add-t3

@@ -9,17 +9,17 @@ use Rattle.format.specs.declared.Counts.{Counts}
 use Rattle.format.specs.Decoding.{automatonOf}
 use Rattle.format.specs.Encoding.{sizes}
 use Rattle.format.proofs.ValidLaws.{valid-fits, valid-ranges, valid-sizes}
-use Rattle.join.specs.Joining.{writtenOf}
+use Rattle.joining.specs.Joining.{writtenOf}
 use Rattle.join.proofs.unions.unite.Statement.{statement}
 use Rattle.join.proofs.JoinedBytes.{union-counts, union-length}
-use Rattle.join.proofs.FinalLaws.{valid-lengths}
-use Rattle.join.proofs.AnswerLaws.{decided-written, file-written, written-bytes}
+use Rattle.joining.proofs.FinalLaws.{valid-lengths}
+use Rattle.joining.proofs.AnswerLaws.{decided-written, file-written, written-bytes}
 use Rattle.join.proofs.JoinedFits.{union-fits, union-ops}
 use Rattle.join.proofs.unions.unite.Tie as tie
 use Rattle.join.proofs.unions.unite.Reads as reads
 use Rattle.join.proofs.unions.unite.Lts as lts
-use Rattle.join.proofs.answer.arcs_size.Reads as arcs-size-reads
-use Rattle.join.proofs.answer.decide.Reads as decide-reads
+use Rattle.joining.proofs.answer.arcs_size.Reads as arcs-size-reads
+use Rattle.joining.proofs.answer.decide.Reads as decide-reads
 use Rattle.join.proofs.unions.union_counts.Reads as union-counts-reads
 use Rattle.join.proofs.unions.write_union.Reads as write-union-reads
 

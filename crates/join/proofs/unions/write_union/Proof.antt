@@ -12,14 +12,14 @@ use Rattle.format.specs.Encoding.{arcsBytes, bytesOf, flagByte, headerBytes}
 use Rattle.format.specs.Decoding.{automatonOf}
 use Rattle.writing.proofs.Placed.{appended-ends, written-then}
 use Rattle.join.proofs.unions.write_union.Statement.{statement}
-use Rattle.join.proofs.FileLaws.{header-length}
+use Rattle.joining.proofs.FileLaws.{header-length}
 use Rattle.join.proofs.JoinedBytes.{union-parts, union-counts}
-use Rattle.join.proofs.FinalLaws.{valid-lengths, flags-end, front-ends}
+use Rattle.joining.proofs.FinalLaws.{valid-lengths, flags-end, front-ends}
 use Rattle.join.proofs.unions.write_union.Tie as tie
 use Rattle.join.proofs.unions.write_union.Reads as reads
 use Rattle.join.proofs.unions.write_union.Lts as lts
-use Rattle.join.proofs.front.write_flags.Reads as write-flags-reads
-use Rattle.join.proofs.front.write_front.Reads as write-front-reads
+use Rattle.joining.proofs.front.write_flags.Reads as write-flags-reads
+use Rattle.joining.proofs.front.write_front.Reads as write-front-reads
 use Rattle.join.proofs.unions.write_union_arcs.Reads as write-union-arcs-reads
 use Rattle.writing.proofs.parts.write_byte.Reads as write-byte-reads
 

@@ -12,13 +12,13 @@ use Rattle.format.specs.Encoding.{arcsBytes, arcBytes}
 use Rattle.format.proofs.ValidLaws.{valid-ranges, valid-sizes}
 use Rattle.writing.proofs.Placed.{written-then, appended-ends}
 use Rattle.join.proofs.unions.write_union_arcs.Statement.{statement}
-use Rattle.join.proofs.Walking.{entry-length}
+use Rattle.joining.proofs.Walking.{entry-length}
 use Rattle.join.proofs.JoinedBytes.{union-arc-parts}
 use Rattle.join.proofs.unions.write_union_arcs.Tie as tie
 use Rattle.join.proofs.unions.write_union_arcs.Reads as reads
 use Rattle.join.proofs.unions.write_union_arcs.Lts as lts
-use Rattle.join.proofs.groups.write_entry.Reads as write-entry-reads
-use Rattle.join.proofs.groups.write_moved_arcs.Reads as write-moved-arcs-reads
+use Rattle.joining.proofs.groups.write_entry.Reads as write-entry-reads
+use Rattle.joining.proofs.groups.write_moved_arcs.Reads as write-moved-arcs-reads
 
 -- the parts, and room for them
 abbrev parts : (s : tie.Start) → let x = automatonOf (s .args .first .now) in let y = automatonOf (s .args .second .now) in let n = s .args .a .states in

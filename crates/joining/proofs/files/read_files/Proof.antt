@@ -1,0 +1,145 @@
+use mathlib.Core.Path.{_∙_, _≡_, sym}
+use native.Mathlib.Omega.{arith}
+use borrow.Author.Needs.{needs}
+use borrow.Author.Tests.{not-false, not-true}
+use Rattle.format.specs.declared.Reading.the-variants.{Valid}
+use Rattle.format.specs.Reading.{readingOf}
+use Rattle.format.proofs.ValidLaws.{valid-letters}
+use Rattle.joining.specs.Joining.{filesOf, paired}
+use Rattle.joining.proofs.files.read_files.Statement.{statement}
+use Rattle.joining.proofs.FileLaws.{lent-letters, valid-files}
+use Rattle.joining.proofs.files.read_files.Tie as tie
+use Rattle.joining.proofs.files.read_files.Reads as reads
+use Rattle.joining.proofs.files.read_files.Lts as lts
+use Rattle.format.proofs.Reading.number.Reads as number-reads
+use Rattle.format.proofs.read.Reads as read-reads
+use Rattle.joining.proofs.files.same_bytes.Reads as same-bytes-reads
+
+-- what reading answered, and the letters then
+left-valid : (c : tie.After-known-told2) → readingOf (c .before .before .before .before .before .before .before .before .before .before .args .first .now) ≡ Valid (c .before .before .before .before .before .left .given .0 .0)
+left-valid c = let r = c .before .before .before .before .before .before .before in sym (r .read .ensures) ∙ c .before .before .before .before .before .left .given .1
+
+right-valid : (c : tie.After-known-told2) → readingOf (c .before .before .before .before .before .before .before .before .before .before .args .second .now) ≡ Valid (c .before .right .given .0 .0)
+right-valid c = sym (c .before .before .before .read2 .ensures) ∙ c .before .right .given .1
+
+-- both files are valid: what comparing the letters says
+compared : (c : tie.After-same-bytes) → let v = c .before .before .before .before .before in let a = v .before .before .before .before .before .before .before .before .before .before .args in
+    filesOf (a .first .now) (a .second .now) ≡ paired (Valid (v .before .before .before .before .before .left .given .0 .0)) (Valid (v .before .right .given .0 .0)) (c .same-bytes .result)
+compared c =
+    let v = c .before .before .before .before .before in
+    let a = v .before .before .before .before .before .before .before .before .before .before .args in
+    let m = v .before .before .before .before .before .left .given .0 .0 in
+    let n = v .before .right .given .0 .0 in
+    valid-files (a .first .now) (a .second .now) (left-valid v) (right-valid v) ∙ rw (c .same-bytes .ensures, lent-letters m (a .first .now), lent-letters n (a .second .now))
+
+-- src/files.rt:35:9
+read-requires : tie.Need-read-requires
+read-requires c κs = search needs
+
+-- src/files.rt:36:24
+enum-known-left : tie.Need-enum-known-left
+enum-known-left c = search needs
+
+-- src/files.rt:37:29
+enum-told : tie.Need-enum-told
+enum-told c = search needs
+
+-- src/files.rt:37:29
+number-requires : tie.Need-number-requires
+number-requires c κs = search needs
+
+-- src/files.rt:37:9
+returns : tie.Need-returns
+unfolding filesOf
+returns c = rw (c .number .ensures, ← c .before .before .before .read .ensures, c .before .enum-told .given .1)
+
+-- src/files.rt:39:9
+read-requires-2 : tie.Need-read-requires-2
+read-requires-2 c κs = search needs
+
+-- src/files.rt:40:24
+enum-known-right : tie.Need-enum-known-right
+enum-known-right c = search needs
+
+-- src/files.rt:41:29
+enum-told-2 : tie.Need-enum-told-2
+enum-told-2 c = search needs
+
+-- src/files.rt:41:29
+number-requires-2 : tie.Need-number-requires-2
+number-requires-2 c κs = search needs
+
+-- src/files.rt:41:9
+returns-2 : tie.Need-returns-2
+unfolding filesOf
+returns-2 c = rw (c .number2 .ensures, ← c .before .before .before .before .before .before .before .read .ensures, ← c .before .before .before .read2 .ensures, c .before .before .before .before .before .left .given .1, c .before .enum-told2 .given .1)
+
+-- src/files.rt:43:15
+add-end : tie.Need-add-end
+add-end c = omega (arith, valid-letters _ _ (left-valid (c .before)))
+
+-- src/files.rt:44:17
+add-other : tie.Need-add-other
+add-other c = omega (arith, valid-letters _ _ (right-valid (c .before .before)))
+
+-- src/files.rt:45:20
+sub-same-bytes : tie.Need-sub-same-bytes
+sub-same-bytes c = search needs
+
+-- src/files.rt:45:20
+part-same-bytes-start : tie.Need-part-same-bytes-start
+part-same-bytes-start c = search needs
+
+-- src/files.rt:45:20
+part-same-bytes-end : tie.Need-part-same-bytes-end
+part-same-bytes-end c = omega (arith, valid-letters _ _ (left-valid (c .before .before)))
+
+-- src/files.rt:45:37
+sub-same-bytes-2 : tie.Need-sub-same-bytes-2
+sub-same-bytes-2 c = search needs
+
+-- src/files.rt:45:37
+part-same-bytes-start-2 : tie.Need-part-same-bytes-start-2
+part-same-bytes-start-2 c = search needs
+
+-- src/files.rt:45:37
+part-same-bytes-end-2 : tie.Need-part-same-bytes-end-2
+part-same-bytes-end-2 c = omega (arith, valid-letters _ _ (right-valid (c .before .before .before)))
+
+-- src/files.rt:45:9
+same-bytes-requires : tie.Need-same-bytes-requires
+same-bytes-requires c κs = search needs
+
+-- src/files.rt:46:9
+returns-3 : tie.Need-returns-3
+returns-3 c = sym (compared (c .before) ∙ rw (not-true (c .before .same-bytes .result) (c .if1 .taken)))
+
+-- src/files.rt:32:1
+returns-4 : tie.Need-returns-4
+returns-4 c = sym (compared (c .before) ∙ rw (not-false (c .before .same-bytes .result) (c .if1 .left)))
+
+pub read-files-spec : {M : Type 1} → statement M
+read-files-spec =
+    tie.close
+    (tie.spec
+    read-requires
+    enum-known-left
+    enum-told
+    number-requires
+    returns
+    read-requires-2
+    enum-known-right
+    enum-told-2
+    number-requires-2
+    returns-2
+    add-end
+    add-other
+    sub-same-bytes
+    part-same-bytes-start
+    part-same-bytes-end
+    sub-same-bytes-2
+    part-same-bytes-start-2
+    part-same-bytes-end-2
+    same-bytes-requires
+    returns-3
+    returns-4)

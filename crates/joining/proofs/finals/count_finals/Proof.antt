@@ -1,0 +1,59 @@
+use mathlib.Core.Path.{_≡_}
+use native.Mathlib.Omega.{arith}
+use borrow.Author.Needs.{needs}
+use lib.ListN.{length}
+use Rattle.automata.specs.Joins.{finalStates}
+use Rattle.format.specs.Decoding.{automatonOf}
+use Rattle.format.proofs.ValidLaws.{file-seen, valid-ranges}
+use Rattle.joining.proofs.finals.count_finals.Statement.{statement}
+use Rattle.joining.proofs.FinalLaws.{final-count, lent-finals, valid-lengths}
+use Rattle.joining.proofs.finals.count_finals.Tie as tie
+use Rattle.joining.proofs.finals.count_finals.Reads as reads
+use Rattle.joining.proofs.finals.count_finals.Lts as lts
+use Rattle.joining.proofs.finals.count_flags.Reads as count-flags-reads
+
+-- src/finals.rt:58:17
+add-flags : tie.Need-add-flags
+add-flags c = omega (arith, valid-ranges _ _ (c .before .before .pre) .letters)
+
+-- src/finals.rt:59:15
+add-end : tie.Need-add-end
+add-end c =
+    let r = valid-ranges _ _ (c .before .before .before .pre) in
+    omega (arith, r .letters, r .states)
+
+-- src/finals.rt:60:17
+sub-count-flags : tie.Need-sub-count-flags
+sub-count-flags c = search needs
+
+-- src/finals.rt:60:17
+part-count-flags-start : tie.Need-part-count-flags-start
+part-count-flags-start c = search needs
+
+-- src/finals.rt:60:17
+part-count-flags-end : tie.Need-part-count-flags-end
+part-count-flags-end c = omega (arith, file-seen _ _ (c .before .before .before .pre) .there)
+
+-- src/finals.rt:60:5
+count-flags-requires : tie.Need-count-flags-requires
+count-flags-requires c κs = search needs
+
+-- src/finals.rt:54:1
+returns : tie.Need-returns
+returns c =
+    let s = c .before .before .before .before .before in
+    let l = automatonOf (s .args .file .now) .finals in
+    let e : c .count-flags .result ≡ length (finalStates 0 l) = rw (lent-finals _ _ (s .pre)) (c .count-flags .ensures) in
+    (e, omega (arith, final-count 0 l, valid-lengths _ _ (s .pre)))
+
+pub count-finals-spec : {M : Type 1} → statement M
+count-finals-spec =
+    tie.close
+    (tie.spec
+    add-flags
+    add-end
+    sub-count-flags
+    part-count-flags-start
+    part-count-flags-end
+    count-flags-requires
+    returns)

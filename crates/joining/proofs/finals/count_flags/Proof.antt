@@ -1,0 +1,67 @@
+use mathlib.Core.Path.{_≡_, ap}
+use mathlib.Core.Logic.{⊎-elim}
+use Prim.Native.Nat.{_+_, _-_, _<_, _≤_}
+use native.Mathlib.Omega.{arith}
+use lib.ListN.{length}
+use Rattle.joining.proofs.finals.count_flags.Statement.{statement}
+use Rattle.joining.proofs.FinalLaws.{final-here, final-none, final-not, finalFrom}
+use Rattle.joining.proofs.finals.count_flags.Tie as tie
+use Rattle.joining.proofs.finals.count_flags.Reads as reads
+use Rattle.joining.proofs.finals.count_flags.Lts as lts
+
+abbrev Inv-loop : tie.InvT-loop
+Inv-loop flags n₀ i₀ n i = (i ≤ length flags) × (n ≤ i) × (n + length (finalFrom flags i) ≡ length (finalFrom flags 0))
+
+abbrev μ-loop : tie.MeasureT-loop
+μ-loop flags n₀ i₀ n i = length flags - i
+
+-- src/finals.rt:20:5
+loop-holds : tie.Need-loop-holds Inv-loop μ-loop
+loop-holds c = (omega arith, omega arith, omega arith)
+
+-- src/finals.rt:21:12
+shared-slice-read-if1 : tie.Need-shared-slice-read-if1 Inv-loop μ-loop
+shared-slice-read-if1 c = omega arith
+
+-- src/finals.rt:22:13
+add-n : tie.Need-add-n Inv-loop μ-loop
+add-n c = omega arith
+
+-- src/finals.rt:24:9
+add-i : tie.Need-add-i Inv-loop μ-loop
+add-i c = omega arith
+
+-- src/finals.rt:20:5
+loop-less : tie.Need-loop-less Inv-loop μ-loop
+loop-less c = omega arith
+
+-- src/finals.rt:20:5
+loop-again : tie.Need-loop-again Inv-loop μ-loop
+loop-again c =
+    let l = c .before .before .before .loop in
+    let flags = c .before .before .before .before .args .flags .now in
+    let h : l .i < length flags = omega arith in
+    ⊎-elim
+    (λ w. (omega arith, omega arith, omega (arith, ap length (final-here flags (l .i) h (w .0 .taken)), l .inv .2)))
+    (λ w. (omega arith, omega arith, omega (arith, ap length (final-not flags (l .i) h (w .0 .left)), l .inv .2)))
+    (c .if1 .came)
+
+-- src/finals.rt:15:1
+returns : tie.Need-returns Inv-loop μ-loop
+returns c =
+    let flags = c .before .before .args .flags .now in
+    omega (arith, c .before .loop .inv .2, ap length (final-none flags (c .before .loop .i) (omega arith)))
+
+pub count-flags-spec : {M : Type 1} → statement M
+count-flags-spec =
+    tie.close
+    (tie.spec
+    Inv-loop
+    μ-loop
+    loop-holds
+    shared-slice-read-if1
+    add-n
+    add-i
+    loop-less
+    loop-again
+    returns)

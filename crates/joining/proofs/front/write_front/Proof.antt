@@ -1,0 +1,63 @@
+use native.Mathlib.Omega.{arith}
+use borrow.Author.Needs.{needs}
+use lib.ListN.{length-drop, length-take}
+use Rattle.format.proofs.ValidLaws.{file-seen}
+use Rattle.writing.proofs.Placed.{appended-length, written-then}
+use Rattle.joining.proofs.front.write_front.Statement.{statement}
+use Rattle.joining.proofs.FileLaws.{lent-letters, valid-alphabet, header-length}
+use Rattle.joining.proofs.front.write_front.Tie as tie
+use Rattle.joining.proofs.front.write_front.Reads as reads
+use Rattle.joining.proofs.front.write_front.Lts as lts
+use Rattle.writing.proofs.parts.write_copy.Reads as write-copy-reads
+use Rattle.writing.proofs.parts.write_header.Reads as write-header-reads
+
+-- src/front.rt:21:9
+write-header-requires : tie.Need-write-header-requires
+write-header-requires c κs = search needs
+
+-- src/front.rt:22:15
+add-end : tie.Need-add-end
+add-end c = search needs
+
+-- src/front.rt:23:25
+sub-write-copy : tie.Need-sub-write-copy
+sub-write-copy c = search needs
+
+-- src/front.rt:23:25
+part-write-copy-start : tie.Need-part-write-copy-start
+part-write-copy-start c = search needs
+
+-- src/front.rt:23:25
+part-write-copy-end : tie.Need-part-write-copy-end
+part-write-copy-end c = omega (arith, file-seen _ _ (c .before .before .before .before .before .before .before .before .pre .1) .there)
+
+-- src/front.rt:23:5
+write-copy-requires : tie.Need-write-copy-requires
+write-copy-requires c κs =
+    let h = c .before .before .before .before .before .write-header .ensures in
+    let s = c .before .before .before .before .before .before .before .before .before in
+    simp (length-take, length-drop) (omega (arith, h .behind, appended-length h, header-length (s .args .c), s .pre .2))
+
+-- src/front.rt:17:1
+same-length : tie.Need-same-length
+same-length c = search needs
+
+-- src/front.rt:17:1
+returns : tie.Need-returns
+returns c =
+    let h = c .before .before .before .before .before .before .before .before in
+    let s = h .before .before .before .before in
+    written-then (h .write-header .ensures) (rw (valid-alphabet _ _ (s .pre .1), ← lent-letters (s .args .a) (s .args .file .now)) (c .before .before .write-copy .ensures))
+
+pub write-front-spec : {M : Type 1} → statement M
+write-front-spec =
+    tie.close
+    (tie.spec
+    write-header-requires
+    add-end
+    sub-write-copy
+    part-write-copy-start
+    part-write-copy-end
+    write-copy-requires
+    same-length
+    returns)

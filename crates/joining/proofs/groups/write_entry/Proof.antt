@@ -1,0 +1,23 @@
+use borrow.Author.Needs.{needs}
+use Rattle.format.specs.Decoding.{letterOf}
+use Rattle.joining.proofs.groups.write_entry.Statement.{statement}
+use Rattle.joining.proofs.groups.write_entry.Tie as tie
+use Rattle.joining.proofs.groups.write_entry.Reads as reads
+use Rattle.joining.proofs.groups.write_entry.Lts as lts
+use Rattle.writing.proofs.arcs.write_plain_arc.Reads as write-plain-arc-reads
+
+-- src/groups.rt:29:5
+write-plain-arc-requires : tie.Need-write-plain-arc-requires
+write-plain-arc-requires c κs = search needs
+
+-- src/groups.rt:20:1
+same-length : tie.Need-same-length
+same-length c = search needs
+
+-- src/groups.rt:20:1
+returns : tie.Need-returns
+unfolding letterOf
+returns c = c .before .before .write-plain-arc .ensures
+
+pub write-entry-spec : {M : Type 1} → statement M
+write-entry-spec = tie.close (tie.spec write-plain-arc-requires same-length returns)

@@ -1,0 +1,134 @@
+use mathlib.Core.Path.{_≡_}
+use mathlib.Core.List.{map, _++_}
+use Prim.Native.Nat.{_-_, _≤_, _+_}
+use native.Mathlib.Omega.{arith}
+use lib.ListN.{drop}
+use Rattle.automata.specs.Joins.{movedArc}
+use Rattle.format.specs.Encoding.{arcsBytes, arcBytes}
+use Rattle.format.specs.Decoding.{arcsOf, arcOf}
+use Rattle.format.specs.Reading.{arcSize, firstArc}
+use Rattle.format.proofs.ValidLaws.{valid-arcs, valid-ranges}
+use Rattle.writing.proofs.Placed.{Left, left-all, left-fits, left-less, left-none}
+use Rattle.joining.proofs.groups.write_moved_arcs.Statement.{statement}
+use Rattle.joining.proofs.Walking.{Walk, walk-start, ArcHere, mapped-next, mapped-none, moved-length, read-length, walk-here, walk-on}
+use Rattle.joining.proofs.groups.write_moved_arcs.Tie as tie
+use Rattle.joining.proofs.groups.write_moved_arcs.Reads as reads
+use Rattle.joining.proofs.groups.write_moved_arcs.Lts as lts
+use Rattle.format.proofs.fields.arc_size.Reads as arc-size-reads
+use Rattle.joining.proofs.groups.write_moved_arc.Reads as write-moved-arc-reads
+
+abbrev Inv-loop : tie.InvT-loop
+Inv-loop out₀ at c file s k from₀ to₀ i₀ out from to i = (i ≤ c .arcs) × Walk c file (c .arcs - i) from × Left at (arcsBytes (map (movedArc s k) (arcsOf (c .arcs) (drop from₀ file)))) out₀ to (arcsBytes (map (movedArc s k) (arcsOf (c .arcs - i) (drop from file)))) out
+
+abbrev μ-loop : tie.MeasureT-loop
+μ-loop out₀ at c file s k from₀ to₀ i₀ out from to i = c .arcs - i
+
+-- the arc of this turn, and what is left to write
+here : (c : tie.Then1 Inv-loop μ-loop) → let l = c .before .before in let a = l .before .before .before .before .before .args in ArcHere (a .c) (a .file .now) (l .loop .from)
+here c =
+    let l = c .before .before in
+    let a = l .before .before .before .before .before .args in
+    walk-here (a .c) (a .file .now) (a .c .arcs) (l .loop .i) (l .loop .from) (c .if1 .taken) (l .loop .inv .1)
+
+turn : (c : tie.Then1 Inv-loop μ-loop) → let l = c .before .before in let a = l .before .before .before .before .before .args in
+    Left (a .at) (arcsBytes (map (movedArc (a .s) (a .k)) (arcsOf (a .c .arcs) (drop (firstArc (a .c)) (a .file .now))))) (a .out .now) (l .loop .to)
+    (arcBytes (movedArc (a .s) (a .k) (arcOf (drop (l .loop .from) (a .file .now))))
+    ++ arcsBytes (map (movedArc (a .s) (a .k)) (arcsOf (a .c .arcs - (l .loop .i + 1)) (drop (l .loop .from + arcSize (drop (l .loop .from) (a .file .now))) (a .file .now))))) (l .loop .out)
+turn c =
+    let l = c .before .before in
+    let a = l .before .before .before .before .before .args in
+    rw (mapped-next (a .c) (a .file .now) (a .c .arcs) (l .loop .i) (l .loop .from) (movedArc (a .s) (a .k)) (c .if1 .taken)) at (l .loop .inv .2)
+
+-- src/groups.rt:40:20
+add-from : tie.Need-add-from Inv-loop μ-loop
+add-from c = omega (arith, valid-ranges _ _ (c .before .before .before .pre .0) .letters)
+
+-- src/groups.rt:40:20
+add-from-2 : tie.Need-add-from-2 Inv-loop μ-loop
+add-from-2 c =
+    let s = c .before .before .before .before in
+    let r = valid-ranges _ _ (s .pre .0) in
+    omega (arith, r .letters, r .states)
+
+-- src/groups.rt:43:5
+loop-holds : tie.Need-loop-holds Inv-loop μ-loop
+loop-holds c =
+    let s = c .before .before .before .before in
+    let m = s .args .c .arcs in
+    let e : m - 0 ≡ m = omega arith in
+    (omega arith, rw e (walk-start _ _ (s .pre .0)), rw e (left-all (rw (valid-arcs _ _ (s .pre .0)) at (s .pre .3))))
+
+-- src/groups.rt:44:9
+write-moved-arc-requires : tie.Need-write-moved-arc-requires Inv-loop μ-loop
+write-moved-arc-requires c κs =
+    let t = c .before in
+    let l = t .before .before in
+    let s = l .before .before .before .before .before in
+    let h = here t in
+    let arc = drop (l .loop .from) (s .args .file .now) in
+    let room = left-fits (arcBytes (movedArc (s .args .s) (s .args .k) (arcOf arc))) _ (turn t) in (
+      h .whole,
+      omega (arith, h .fits .source, s .pre .1),
+      omega (arith, h .fits .target, s .pre .1),
+      s .pre .2,
+      omega (arith, moved-length (s .args .s) (s .args .k) (arcOf arc), read-length arc),
+    )
+
+-- src/groups.rt:45:17
+arc-size-requires : tie.Need-arc-size-requires Inv-loop μ-loop
+arc-size-requires c κs = omega (arith, here (c .before .before .before .before) .whole)
+
+-- src/groups.rt:45:9
+add-from-3 : tie.Need-add-from-3 Inv-loop μ-loop
+add-from-3 c = omega (arith, here (c .before .before .before .before .before) .whole, c .arc-size .ensures .0)
+
+-- src/groups.rt:46:9
+add-i : tie.Need-add-i Inv-loop μ-loop
+add-i c = omega arith
+
+-- src/groups.rt:43:5
+loop-less : tie.Need-loop-less Inv-loop μ-loop
+loop-less c = omega arith
+
+-- src/groups.rt:43:5
+loop-again : tie.Need-loop-again Inv-loop μ-loop
+loop-again c =
+    let w = c .before .before .before in
+    let t = w .before .before in
+    let l = t .before .before in
+    let a = l .before .before .before .before .before .args in (
+      omega arith,
+      rw (c .arc-size .ensures .0) (walk-on (a .c) (a .file .now) (a .c .arcs) (l .loop .i) (l .loop .from) (t .if1 .taken) (l .loop .inv .1)),
+      rw (c .arc-size .ensures .0) (left-less _ (turn t) (w .write-moved-arc .ensures)),
+    )
+
+-- src/groups.rt:36:1
+same-length : tie.Need-same-length Inv-loop μ-loop
+same-length c = c .before .before .loop .inv .2 .size
+
+-- src/groups.rt:36:1
+returns : tie.Need-returns Inv-loop μ-loop
+returns c =
+    let l = c .before .before in
+    let s = l .before .before .before .before .before in
+    let a = s .args in
+    let none = mapped-none (a .c) (a .file .now) (a .c .arcs) (l .loop .i) (l .loop .from) (movedArc (a .s) (a .k)) (c .if1 .left) in
+    rw (valid-arcs _ _ (s .pre .0)) (left-none (rw none at (l .loop .inv .2)))
+
+pub write-moved-arcs-spec : {M : Type 1} → statement M
+write-moved-arcs-spec =
+    tie.close
+    (tie.spec
+    Inv-loop
+    μ-loop
+    add-from
+    add-from-2
+    loop-holds
+    write-moved-arc-requires
+    arc-size-requires
+    add-from-3
+    add-i
+    loop-less
+    loop-again
+    same-length
+    returns)
