@@ -17,7 +17,7 @@ use Rattle.joining.proofs.MovedFits.{moved-states}
 use Rattle.joining.proofs.FinalLaws.{returning}
 
 -- ---- any automaton, once its flags are known part by part
-bytes-from : (x : Automaton) → bytesOf x ≡ (headerBytes (sizes x) ++ x .alphabet) ++ (map flagByte (x .finals) ++ arcsBytes (x .arcs))
+pub bytes-from : (x : Automaton) → bytesOf x ≡ (headerBytes (sizes x) ++ x .alphabet) ++ (map flagByte (x .finals) ++ arcsBytes (x .arcs))
 unfolding bytesOf
 bytes-from x = sym (append-assoc (headerBytes (sizes x)) (x .alphabet) (map flagByte (x .finals) ++ arcsBytes (x .arcs)))
 

@@ -1,2 +1,3 @@
 pub mod JoinedFits
 pub mod JoinedBytes
+pub mod ConcatenationBytes

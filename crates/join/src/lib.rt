@@ -3,7 +3,7 @@
 // output as it was lent; else the joined file stands at its front, and the bytes behind it are as they were lent.
 ghost use mathlib.Core.Path.{_≡_};
 ghost use lib.ListN.{length};
-ghost use Rattle.automata.specs.Joins.{union, closure};
+ghost use Rattle.automata.specs.Joins.{union, concatenation, closure};
 ghost use Rattle.format.specs.Decoding.{automatonOf};
 ghost use Rattle.format.specs.Encoding.{bytesOf};
 ghost use Rattle.writing.specs.Answers.{outputOf};
@@ -14,6 +14,7 @@ use joining::files::read_files;
 use writing::Written;
 
 mod closures;
+mod concatenations;
 mod unions;
 
 // Writes an automaton that accepts the words of either: a new state 0 with an empty move into each.
@@ -28,6 +29,22 @@ pub fn union(first: &[u8], second: &[u8], out: &mut [u8]) -> Written
     match files {
         Files::Fault(number, automaton) => Written::Refused(number, automaton),
         Files::Both(a, b) => unions::unite(out, a, first, b, second),
+    }
+}
+
+// Writes an automaton that accepts the words of the first, each followed by a word of the second: from each final state of the
+// first an empty move to the initial state of the second, which has registers of its own.
+// Refuses, in this order: 1 to 9, the first file's fault; 1 to 9, the second's; 10, the letter lists differ; 11, the joined
+// automaton beyond a limit on states, registers or arcs; 25, the output shorter than the result.
+// Cost: one pass over each file to read it, and one to write it.
+pub fn concatenate(first: &[u8], second: &[u8], out: &mut [u8]) -> Written
+    ensures answer { λ r. ⌜ r ≡ joinedOf concatenation (now (first .entry)) (now (second .entry)) (length (now (out .entry))) ⌝ }
+    ensures output { λ r. ⌜ now (out .exit) ≡ outputOf r (bytesOf (concatenation (automatonOf (now (first .entry))) (automatonOf (now (second .entry))))) (now (out .entry)) ⌝ }
+{
+    let files = read_files(first, second);
+    match files {
+        Files::Fault(number, automaton) => Written::Refused(number, automaton),
+        Files::Both(a, b) => concatenations::append(out, a, first, b, second),
     }
 }
 
