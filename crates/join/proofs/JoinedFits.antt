@@ -5,9 +5,10 @@ use mathlib.Core.List.{List, map, _++_}
 use mathlib.Core.Option.{none}
 use Prim.Native.Nat.{_+_, _≤_, _-_}
 use native.Mathlib.Omega.{arith}
-use lib.ListN.{length, length-append, length-replicate, replicate}
+use lib.ListN.{length}
 use Rattle.automata.specs.Automaton.{Arc, Automaton}
 use Rattle.automata.specs.Joins.{union, clearing, closure, finalStates, moved, arcFrom, concatenation, emptyMove, movedArc}
+use Rattle.automata.proofs.ListLaws.{each-join}
 use Rattle.automata.proofs.SearchLaws.{at}
 use Rattle.format.specs.declared.Counts.{Counts}
 use Rattle.format.specs.Limits.{Fits}
@@ -18,7 +19,9 @@ use Rattle.automata.specs.Lists.{Each}
 use Rattle.joining.specs.Joining.{beyond}
 use Rattle.joining.proofs.Limits.{Few, FewOps, within}
 use Rattle.joining.proofs.MovedFits.{Room, return-fits, arcs-moved, returns-fit, unmoved, empty-moves-fit, states-moved}
-use Rattle.joining.proofs.EachLaws.{each-imply, each-append}
+use Rattle.joining.proofs.EachLaws.{each-imply}
+use Rattle.join.proofs.JoinedBytes.{union-counts}
+use Rattle.join.proofs.ConcatenationBytes.{concatenation-counts}
 
 -- ---- ranges and arcs make it so
 module _ (x : Automaton) (letters : length (x .alphabet) ≤ 64) (ascends : ascending (x .alphabet) ≡ true)
@@ -50,9 +53,8 @@ module _ (a b : Automaton) (fa : Fits a) (fb : Fits b) (shared : b .alphabet ≡
   same-letters : cb .letters ≡ ca .letters
   same-letters = ap length shared
 
-  pub union-states : length (union a b .finals) ≡ 1 + ca .states + cb .states
-  unfolding union
-  union-states = omega (arith, length-append (a .finals) (b .finals))
+  union-states : length (union a b .finals) ≡ 1 + ca .states + cb .states
+  union-states = ap (λ (c : Counts). c .states) (union-counts a b)
 
   union-room-left : Room 0 ca (sizes (union a b))
   unfolding union
@@ -74,7 +76,7 @@ module _ (a b : Automaton) (fa : Fits a) (fb : Fits b) (shared : b .alphabet ≡
         return-fits d r g 1 0 1 r (omega arith) (omega arith) (omega (arith, ra .some-state)),
         (
           return-fits d r g 1 0 (1 + ca .states) r (omega arith) (omega arith) (omega (arith, rb .some-state)),
-          each-append (ArcFits d) (map (moved 1) (a .arcs)) (map (moved (1 + ca .states)) (b .arcs))
+          each-join (ArcFits d) (map (moved 1) (a .arcs)) (map (moved (1 + ca .states)) (b .arcs))
               (states-moved ca d union-room-left 1 (a .arcs) (omega arith) (arcs-fit a fa))
               (states-moved cb d union-room-right (1 + ca .states) (b .arcs) (omega arith) (arcs-fit b fb)),
         ),
@@ -100,9 +102,8 @@ module _ (a b : Automaton) (fa : Fits a) (fb : Fits b) (shared : b .alphabet ≡
   unfolding concatenation
   concatenation-room-right = record { registers = omega (arith, fa .ranges .some-register); symbols = omega arith; letters = omega (arith, same-letters) }
 
-  pub concatenation-states : length (concatenation a b .finals) ≡ ca .states + cb .states
-  unfolding concatenation
-  concatenation-states = omega (arith, length-append (replicate (ca .states) false) (b .finals), length-replicate (ca .states) false)
+  concatenation-states : length (concatenation a b .finals) ≡ ca .states + cb .states
+  concatenation-states = ap (λ (c : Counts). c .states) (concatenation-counts a b)
 
   pub concatenation-arcs : Each (ArcFits (sizes (concatenation a b))) (concatenation a b .arcs)
   unfolding concatenation
@@ -113,9 +114,9 @@ module _ (a b : Automaton) (fa : Fits a) (fb : Fits b) (shared : b .alphabet ≡
       let rb = fb .ranges in
       let k = a .registers - 1 in
       let final = finalStates 0 (a .finals) in
-      each-append (ArcFits d) (a .arcs) (map (λ i. emptyMove i (ca .states)) final ++ map (movedArc (ca .states) k) (b .arcs))
+      each-join (ArcFits d) (a .arcs) (map (λ i. emptyMove i (ca .states)) final ++ map (movedArc (ca .states) k) (b .arcs))
       (rw (unmoved (a .arcs)) at (arcs-moved 0 ca d concatenation-room-left 0 (a .arcs) (omega arith) (arcs-fit a fa)))
-      (each-append (ArcFits d) (map (λ i. emptyMove i (ca .states)) final) (map (movedArc (ca .states) k) (b .arcs))
+      (each-join (ArcFits d) (map (λ i. emptyMove i (ca .states)) final) (map (movedArc (ca .states) k) (b .arcs))
       (empty-moves-fit d (omega (arith, ra .some-register)) (omega (arith, ra .some-symbol)) (ca .states) (a .finals) (omega arith) (omega (arith, rb .some-state)))
       (arcs-moved k cb d concatenation-room-right (ca .states) (b .arcs) (omega arith) (arcs-fit b fb)))
 
@@ -144,7 +145,7 @@ module _ (a : Automaton) (fa : Fits a) where
       let n = a .registers in
       let final = finalStates 0 (a .finals) in (
         return-fits d (ra .some-register) (ra .some-symbol) 1 0 1 (ra .some-register) (omega arith) (omega arith) (omega (arith, ra .some-state)),
-        each-append (ArcFits d) (map (moved 1) (a .arcs)) (map (λ i. arcFrom (1 + i) none 1 (clearing n)) final)
+        each-join (ArcFits d) (map (moved 1) (a .arcs)) (map (λ i. arcFrom (1 + i) none 1 (clearing n)) final)
             (states-moved (sizes a) d closure-room 1 (a .arcs) (omega arith) (arcs-fit a fa))
             (returns-fit d (ra .some-register) (ra .some-symbol) 1 1 n (a .finals) (omega arith) (omega (arith, ra .some-state)) (omega arith) (ra .registers)),
       )
