@@ -22,6 +22,11 @@ zero-flags : (n : ℕ) → map flagByte (replicate n false) ≡ replicate n 0
 zero-flags zero = refl
 zero-flags (suc n) = rw (zero-flags n)
 
+-- empty moves that clear no register
+pub moves-length : (s t : ℕ) (l : List ℕ) → length (arcsBytes (map (returning s t 1) l)) ≡ 6 * length l
+unfolding clearing
+moves-length s t l = omega (arith, returning-length s t 1 l)
+
 module _ (a b : Automaton) where
   pub concatenation-parts : {c : Counts} {n : ℕ} → sizes (concatenation a b) ≡ c → states a ≡ n
       → bytesOf (concatenation a b) ≡ (headerBytes c ++ a .alphabet) ++ (replicate n 0 ++ (map flagByte (b .finals) ++ arcsBytes (concatenation a b .arcs)))
@@ -51,21 +56,12 @@ module _ (a b : Automaton) where
         let r = map (movedArc n (k - 1)) (b .arcs) in
         rw (e, f, empty-moves n (finalStates 0 (a .finals)), unmoved (a .arcs), arcs-append (a .arcs) (m ++ r), arcs-append m r)
 
-    -- how many bytes each part takes
-    pub concatenation-arcs-length : length (arcsBytes (concatenation a b .arcs)) ≡ length lefts + length moves + length rights
-    concatenation-arcs-length = ap length concatenation-arc-parts ∙ simp length-append (omega arith)
+  -- how many bytes each part takes
+  pub concatenation-arcs-length : length (arcsBytes (concatenation a b .arcs)) ≡ length (arcsBytes (a .arcs)) + 6 * length (finalStates 0 (a .finals)) + length (arcsBytes (b .arcs))
+  concatenation-arcs-length = ap length (concatenation-arc-parts refl refl) ∙ simp (length-append, arcs-moved-length, moves-length) (omega arith)
 
   pub concatenation-length : length (bytesOf (concatenation a b)) ≡ firstArc (sizes (concatenation a b)) + length (arcsBytes (a .arcs)) + 6 * length (finalStates 0 (a .finals)) + length (arcsBytes (b .arcs))
-  unfolding clearing
-  concatenation-length =
-      omega (
-        arith,
-        bytes-length (concatenation a b),
-        concatenation-arcs-length refl refl,
-        arcs-moved-length 0 0 (a .arcs),
-        returning-length 0 (states a) 1 (finalStates 0 (a .finals)),
-        arcs-moved-length (states a) (a .registers - 1) (b .arcs),
-      )
+  concatenation-length = omega (arith, bytes-length (concatenation a b), concatenation-arcs-length)
 
   pub concatenation-counts : sizes (concatenation a b)
       ≡ record { letters = letters a; states = states a + states b; registers = a .registers + b .registers - 1; symbols = max (a .symbols) (b .symbols); arcs = length (a .arcs) + length (finalStates 0 (a .finals)) + length (b .arcs) }

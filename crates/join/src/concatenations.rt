@@ -48,9 +48,9 @@ fn write_concatenation_arcs(
     requires { ⌜ Joinable a b (now first) (now second) × (a .states + b .states ≤ 256) × (at + length (arcsBytes (concatenation (automatonOf (now first)) (automatonOf (now second)) .arcs)) ≤ length (now out)) ⌝ }
     ensures { λ r. ⌜ Appended at (arcsBytes (concatenation (automatonOf (now (first .entry))) (automatonOf (now (second .entry))) .arcs)) (now (out .entry)) (now (out .exit)) r ⌝ }
 {
+    let shift = a.registers - 1;
     let between = write_moved_arcs(out, at, a, first, 0, 0);
     let right = write_final_arcs(out, between, a, first, 0, a.states, 1);
-    let shift = a.registers - 1;
     write_moved_arcs(out, right, b, second, a.states, shift)
 }
 

@@ -64,7 +64,7 @@ write-flags-requires c κs =
     let zeros = c .before .before .before in
     let front = zeros .before .before .before .before in
     let s = front .before .before .before .before .before in (
-      s .pre .0 .second,
+      search needs,
       omega (arith, room s, front-ends _ _ (s .pre .0 .first) (s .args .c) (front .write-front .ensures), zeros-end (s .args .a .states) (zeros .write-zeros .ensures)),
     )
 

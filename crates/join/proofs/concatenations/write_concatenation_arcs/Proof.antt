@@ -1,9 +1,9 @@
 use mathlib.Core.Path.{_≡_, ap}
 use mathlib.Core.List.{_++_, map}
-use Prim.Native.Nat.{_-_}
+use Prim.Native.Nat.{_*_, _+_, _-_, _≤_}
 use native.Mathlib.Omega.{arith}
 use borrow.Author.Needs.{needs}
-use lib.ListN.{length-append}
+use lib.ListN.{length}
 use Rattle.automata.specs.Joins.{concatenation, finalStates, movedArc}
 use Rattle.automata.proofs.SearchLaws.{at}
 use Rattle.format.specs.declared.Counts.{Counts}
@@ -12,15 +12,16 @@ use Rattle.format.specs.Encoding.{arcsBytes}
 use Rattle.format.proofs.ValidLaws.{valid-ranges, valid-sizes}
 use Rattle.writing.proofs.Placed.{appended-ends, written-then}
 use Rattle.joining.proofs.FinalLaws.{returning}
+use Rattle.joining.proofs.Walking.{arcs-moved-length}
 use Rattle.join.proofs.concatenations.write_concatenation_arcs.Statement.{statement}
-use Rattle.join.proofs.ConcatenationBytes.{concatenation-arc-parts}
+use Rattle.join.proofs.ConcatenationBytes.{concatenation-arc-parts, concatenation-arcs-length, moves-length}
 use Rattle.join.proofs.concatenations.write_concatenation_arcs.Tie as tie
 use Rattle.join.proofs.concatenations.write_concatenation_arcs.Reads as reads
 use Rattle.join.proofs.concatenations.write_concatenation_arcs.Lts as lts
 use Rattle.joining.proofs.finals.write_final_arcs.Reads as write-final-arcs-reads
 use Rattle.joining.proofs.groups.write_moved_arcs.Reads as write-moved-arcs-reads
 
--- the parts
+-- the parts, and room for them
 abbrev parts : (s : tie.Start) → let x = automatonOf (s .args .first .now) in let y = automatonOf (s .args .second .now) in let n = s .args .a .states in
     arcsBytes (concatenation x y .arcs)
     ≡ arcsBytes (map (movedArc 0 0) (x .arcs)) ++ (arcsBytes (map (returning 0 n 1) (finalStates 0 (x .finals))) ++ arcsBytes (map (movedArc n (s .args .a .registers - 1)) (y .arcs)))
@@ -28,42 +29,43 @@ parts s =
     let n = valid-sizes _ _ (s .pre .0 .first) in
     concatenation-arc-parts (automatonOf (s .args .first .now)) (automatonOf (s .args .second .now)) (ap (λ (c : Counts). c .states) n) (ap (λ (c : Counts). c .registers) n)
 
--- src/concatenations.rt:51:9
-write-moved-arcs-requires : tie.Need-write-moved-arcs-requires
-write-moved-arcs-requires c κs =
-    let s = c .before .before .before .before in
-    (s .pre .0 .first, omega (arith, s .pre .1), omega arith, omega (arith, simp length-append at (rw (parts s) at (s .pre .2))))
+room : (s : tie.Start) → let x = automatonOf (s .args .first .now) in let y = automatonOf (s .args .second .now) in
+    s .args .at + length (arcsBytes (x .arcs)) + 6 * length (finalStates 0 (x .finals)) + length (arcsBytes (y .arcs)) ≤ length (s .args .out .now)
+room s = omega (arith, s .pre .2, concatenation-arcs-length (automatonOf (s .args .first .now)) (automatonOf (s .args .second .now)))
+
+-- src/concatenations.rt:51:17
+sub-shift : tie.Need-sub-shift
+sub-shift c = omega (arith, valid-ranges _ _ (c .before .before .before .before .pre .0 .first) .some-register)
 
 -- src/concatenations.rt:52:9
+write-moved-arcs-requires : tie.Need-write-moved-arcs-requires
+write-moved-arcs-requires c κs =
+    let s = c .before .before .before .before .before in
+    (search needs, omega (arith, s .pre .1), omega (arith, valid-ranges _ _ (s .pre .0 .first) .registers), simp arcs-moved-length (omega (arith, room s)))
+
+-- src/concatenations.rt:53:9
 write-final-arcs-requires : tie.Need-write-final-arcs-requires
 write-final-arcs-requires c κs =
     let left = c .before .before .before in
-    let s = left .before .before .before .before .before in (
-      s .pre .0 .first,
+    let s = left .before .before .before .before .before .before in (
+      search needs,
       omega (arith, s .pre .1),
       omega (arith, s .pre .1, valid-ranges _ _ (s .pre .0 .second) .some-state),
       omega arith,
-      omega (arith, simp length-append at (rw (parts s) at (s .pre .2)), appended-ends (left .write-moved-arcs .ensures)),
+      simp moves-length (omega (arith, room s, simp arcs-moved-length at (appended-ends (left .write-moved-arcs .ensures)))),
     )
-
--- src/concatenations.rt:53:17
-sub-shift : tie.Need-sub-shift
-sub-shift c =
-    let moves = c .before .before .before in
-    let left = moves .before .before .before .before in
-    let s = left .before .before .before .before .before in
-    valid-ranges _ _ (s .pre .0 .first) .some-register
 
 -- src/concatenations.rt:54:5
 write-moved-arcs-requires-2 : tie.Need-write-moved-arcs-requires-2
 write-moved-arcs-requires-2 c κs =
-    let moves = c .before .before .before .before in
+    let moves = c .before .before .before in
     let left = moves .before .before .before .before in
-    let s = left .before .before .before .before .before in (
-      s .pre .0 .second,
-      s .pre .1,
+    let s = left .before .before .before .before .before .before in (
+      search needs,
+      omega (arith, s .pre .1),
       omega (arith, valid-ranges _ _ (s .pre .0 .first) .registers),
-      omega (arith, simp length-append at (rw (parts s) at (s .pre .2)), appended-ends (left .write-moved-arcs .ensures), appended-ends (moves .write-final-arcs .ensures)),
+      simp arcs-moved-length
+          (omega (arith, room s, simp arcs-moved-length at (appended-ends (left .write-moved-arcs .ensures)), simp moves-length at (appended-ends (moves .write-final-arcs .ensures)))),
     )
 
 -- src/concatenations.rt:40:1
@@ -74,18 +76,18 @@ same-length c = search needs
 returns : tie.Need-returns
 returns c =
     let right = c .before .before in
-    let moves = right .before .before .before .before .before in
+    let moves = right .before .before .before .before in
     let left = moves .before .before .before .before in
-    let s = left .before .before .before .before .before in
+    let s = left .before .before .before .before .before .before in
     rw (parts s) (written-then (left .write-moved-arcs .ensures) (written-then (moves .write-final-arcs .ensures) (right .write-moved-arcs2 .ensures)))
 
 pub write-concatenation-arcs-spec : {M : Type 1} → statement M
 write-concatenation-arcs-spec =
     tie.close
     (tie.spec
+    sub-shift
     write-moved-arcs-requires
     write-final-arcs-requires
-    sub-shift
     write-moved-arcs-requires-2
     same-length
     returns)
