@@ -63,14 +63,14 @@ module _ (a b : Automaton) where
   pub concatenation-length : length (bytesOf (concatenation a b)) ≡ firstArc (sizes (concatenation a b)) + length (arcsBytes (a .arcs)) + 6 * length (finalStates 0 (a .finals)) + length (arcsBytes (b .arcs))
   concatenation-length = omega (arith, bytes-length (concatenation a b), concatenation-arcs-length)
 
-  pub concatenation-counts : sizes (concatenation a b)
-      ≡ record { letters = letters a; states = states a + states b; registers = a .registers + b .registers - 1; symbols = max (a .symbols) (b .symbols); arcs = length (a .arcs) + length (finalStates 0 (a .finals)) + length (b .arcs) }
+  pub concatenation-counts : {n : ℕ} → length (finalStates 0 (a .finals)) ≡ n → sizes (concatenation a b)
+      ≡ record { letters = letters a; states = states a + states b; registers = a .registers + b .registers - 1; symbols = max (a .symbols) (b .symbols); arcs = length (a .arcs) + n + length (b .arcs) }
   unfolding concatenation
-  concatenation-counts =
+  concatenation-counts {n} e =
       let final = finalStates 0 (a .finals) in
       let l = map (λ i. emptyMove i (states a)) final in
       let r = map (movedArc (states a) (a .registers - 1)) (b .arcs) in
       let s : length (concatenation a b .finals) ≡ states a + states b = omega (arith, length-append (replicate (states a) false) (b .finals), length-replicate (states a) false) in
-      let m : length (concatenation a b .arcs) ≡ length (a .arcs) + length final + length (b .arcs)
+      let m : length (concatenation a b .arcs) ≡ length (a .arcs) + n + length (b .arcs)
       = omega (arith, length-append (a .arcs) (l ++ r), length-append l r, length-map final (λ i. emptyMove i (states a)), length-map (b .arcs) (movedArc (states a) (a .registers - 1))) in
       λ i. record { letters = letters a; states = s i; registers = a .registers + b .registers - 1; symbols = max (a .symbols) (b .symbols); arcs = m i }

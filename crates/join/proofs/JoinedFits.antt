@@ -1,5 +1,5 @@
 -- JoinedFits: a joined automaton that is not beyond a limit is within the limits of a file, where the parts are.
-use mathlib.Core.Path.{_≡_, ap}
+use mathlib.Core.Path.{_≡_, ap, refl}
 use mathlib.Core.Bool.{false, true}
 use mathlib.Core.List.{List, map, _++_}
 use mathlib.Core.Option.{none}
@@ -103,7 +103,7 @@ module _ (a b : Automaton) (fa : Fits a) (fb : Fits b) (shared : b .alphabet ≡
   concatenation-room-right = record { registers = omega (arith, fa .ranges .some-register); symbols = omega arith; letters = omega (arith, same-letters) }
 
   concatenation-states : length (concatenation a b .finals) ≡ ca .states + cb .states
-  concatenation-states = ap (λ (c : Counts). c .states) (concatenation-counts a b)
+  concatenation-states = ap (λ (c : Counts). c .states) (concatenation-counts a b refl)
 
   pub concatenation-arcs : Each (ArcFits (sizes (concatenation a b))) (concatenation a b .arcs)
   unfolding concatenation

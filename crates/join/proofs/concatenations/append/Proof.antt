@@ -1,4 +1,4 @@
-use mathlib.Core.Path.{_∙_, _≡_, ap, sym}
+use mathlib.Core.Path.{_∙_, _≡_, ap, sym, refl}
 use Prim.Native.Nat.{_*_, _+_, _≤_}
 use native.Mathlib.Omega.{arith}
 use borrow.Author.Needs.{needs}
@@ -46,7 +46,7 @@ small c =
     let rb = valid-ranges _ _ (s .pre .second) in
     let la = valid-lengths _ _ (s .pre .first) in
     let lb = valid-lengths _ _ (s .pre .second) in
-    let e = sym (counts c) ∙ concatenation-counts (automatonOf (s .args .first .now)) (automatonOf (s .args .second .now)) in
+    let e = sym (counts c) ∙ concatenation-counts (automatonOf (s .args .first .now)) (automatonOf (s .args .second .now)) refl in
     (omega (arith, ap (λ (d : Counts). d .letters) e, ra .letters), omega (arith, ap (λ (d : Counts). d .states) e, ra .states, rb .states), few-finals (c .before))
 
 -- the answer

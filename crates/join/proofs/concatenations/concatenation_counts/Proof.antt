@@ -34,7 +34,7 @@ add-t9 c = search needs
 returns : tie.Need-returns
 returns c =
     let g = c .before .before .larger in
-    λ x y p f q. rw (g .ensures, ← p, ← f, ← q) (concatenation-counts x y)
+    λ x y p f q. rw (g .ensures, ← p, ← q) (concatenation-counts x y f)
 
 pub concatenation-counts-spec : {M : Type 1} → statement M
 concatenation-counts-spec =

@@ -1,4 +1,4 @@
-use mathlib.Core.Path.{_≡_, ap, subst}
+use mathlib.Core.Path.{_≡_, ap, subst, refl}
 use mathlib.Core.List.{List, _++_, map}
 use Prim.Native.Nat.{_+_, _≤_, ℕ}
 use native.Mathlib.Omega.{arith}
@@ -77,7 +77,7 @@ write-concatenation-arcs-requires c κs =
     let s = front .before .before .before .before .before in
     let v = s .pre .0 in (
       v,
-      omega (arith, s .pre .2 .ranges .states, ap (λ (c : Counts). c .states) (concatenation-counts (automatonOf (s .args .first .now)) (automatonOf (s .args .second .now))), valid-lengths _ _ (v .first), valid-lengths _ _ (v .second)),
+      omega (arith, s .pre .2 .ranges .states, ap (λ (c : Counts). c .states) (concatenation-counts (automatonOf (s .args .first .now)) (automatonOf (s .args .second .now)) refl), valid-lengths _ _ (v .first), valid-lengths _ _ (v .second)),
       omega (
         arith,
         room s,
