@@ -1,3 +1,9 @@
+-- what callers may rely on: read this first
+pub mod Promise
+-- the laws behind it
+pub mod Outcomes
+pub mod BeyondLaws
 pub mod JoinedFits
+-- what the functions' proofs go by
 pub mod JoinedBytes
 pub mod ConcatenationBytes

@@ -1,0 +1,49 @@
+-- Promise: what the joining calls promise of the bytes (demand 2, and the exact condition of each refusal): see specs/Promises.antt.
+-- A call's contract is two equations (src/lib.rt), which are the premises here: what it answers, and what it leaves in the output.
+use mathlib.Core.Path.{_≡_}
+use mathlib.Core.Bool.{false}
+use mathlib.Core.Logic.{_↔_}
+use mathlib.Core.List.{List}
+use Prim.Native.Nat.{ℕ}
+use lib.ListN.{length}
+use Rattle.automata.specs.Automaton.{Automaton, WellFormed}
+use Rattle.automata.specs.Joins.{Split, closure, concatenation, union}
+use Rattle.automata.specs.Words.{Language}
+use Rattle.automata.proofs.Laws.{concatenating, uniting}
+use Rattle.format.specs.Decoding.{automatonOf}
+use Rattle.format.specs.Encoding.{bytesOf}
+use Rattle.format.specs.Limits.{Fits}
+use Rattle.writing.specs.Answers.{outputOf}
+use Rattle.writing.specs.declared.Written.{Written}
+use Rattle.joining.specs.Joining.{beyond, closedOf, joinedOf}
+use Rattle.join.specs.Promises.{Closed, InEither, TwoJoined}
+use Rattle.join.proofs.JoinedFits.{concatenation-fits, union-fits}
+use Rattle.join.proofs.Outcomes.{one-closed, two-joined}
+
+-- ---- what a call that joins two files answers and leaves
+abbrev Answers : (Automaton → Automaton → Automaton) → (first second old : List ℕ) → Written → Type 0
+Answers join first second old answer = answer ≡ joinedOf join first second (length old)
+
+abbrev Leaves : (Automaton → Automaton → Automaton) → (first second old out : List ℕ) → Written → Type 0
+Leaves join first second old out answer = out ≡ outputOf answer (bytesOf (join (automatonOf first) (automatonOf second))) old
+
+-- THE PROMISE, whatever the join: if it is within the limits of a file where it is not beyond one, and has the words named, so has
+-- what the call writes; and each refusal comes exactly under its condition.
+module _ (join : Automaton → Automaton → Automaton) (Words : (P Q : List ℕ → Type 0) → List ℕ → Type 0)
+    (fits : (a b : Automaton) → Fits a → Fits b → b .alphabet ≡ a .alphabet → beyond (join a b) ≡ false → Fits (join a b))
+    (accepts : (a b : Automaton) → WellFormed a → WellFormed b → b .alphabet ≡ a .alphabet → (word : List ℕ) → Language (join a b) word ↔ Words (Language a) (Language b) word) where
+  join-promised : (first second old out : List ℕ) (answer : Written) → Answers join first second old answer → Leaves join first second old out answer → TwoJoined join Words first second old out answer
+  join-promised first second old out answer answered left = rw (left, answered) (two-joined join Words fits accepts first second old)
+
+module _ (first second old out : List ℕ) (answer : Written) where
+  -- union: the words of either
+  pub union-promised : Answers union first second old answer → Leaves union first second old out answer → TwoJoined union InEither first second old out answer
+  union-promised = join-promised union InEither union-fits uniting first second old out answer
+
+  -- concatenation: a word of the first and then a word of the second
+  pub concatenation-promised : Answers concatenation first second old answer → Leaves concatenation first second old out answer → TwoJoined concatenation Split first second old out answer
+  concatenation-promised = join-promised concatenation Split concatenation-fits concatenating first second old out answer
+
+-- closure: the finite sequences of words, none at all included
+pub closure-promised : (file old out : List ℕ) (answer : Written) → answer ≡ closedOf file (length old) → out ≡ outputOf answer (bytesOf (closure (automatonOf file))) old → Closed file old out answer
+closure-promised file old out answer answered left = rw (left, answered) (one-closed file old)
