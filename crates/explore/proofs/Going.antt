@@ -87,7 +87,8 @@ module _ {file w₀ : List ℕ} {n : Counts} (base c known₀ plain₀ own : ℕ
     left = λ all plains t. rw (← hops-chosen n file w₀ own i) (left-start c (hopsIn n file own) t);
   }
 
-hop-at : (file : List ℕ) (at own : ℕ)
+-- the arc at a place of the file, performed on `own`
+pub hop-at : (file : List ℕ) (at own : ℕ)
     → hop (drop at file) own ≡ hopWith (performPacked (getD file (at + 3) 0) (drop (at + 4) file) (own % 2 ^ 32)) (letterOf (getD file (at + 1) 0)) (getD file (at + 2) 0)
 unfolding hop
 hop-at file at own = rw (getD-drop at file 1 0, getD-drop at file 2 0, getD-drop at file 3 0, drop-drop 4 at file)

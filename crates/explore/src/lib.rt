@@ -1,7 +1,7 @@
 // explore: the configurations of an automaton and its plain arcs, found from the bytes of its file.
 // A configuration is one word: the contents of its registers in the low 32 bits, four bits each, and its state above them.
 mod arcs;
-mod map;
+pub mod map;
 mod meeting;
 pub mod operations;
 pub mod walk;

@@ -1,4 +1,4 @@
-// Where the tables of the building stand in the lent words (specs/Map.antt).
+// Where the tables of the building stand in the lent words, and the parts of a block from its first word on (specs/Map.antt).
 pub const OFFSETS: usize = 2048;
 
 pub const ARC_NEXTS: usize = 2560;
@@ -10,3 +10,7 @@ pub const CONFIGS: usize = 3136;
 pub const CONFIG_HEADS: usize = 3392;
 
 pub const CONFIG_NEXTS: usize = 3520;
+
+pub const BLOCK_ARCS: usize = 1024;
+
+pub const BLOCK_STARTS: usize = 1536;

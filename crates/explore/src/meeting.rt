@@ -15,6 +15,7 @@ ghost use Rattle.explore.specs.Map.{configs, mapEnd, arcsAt, startsAt, P
 ghost use Rattle.explore.specs.Packed.{plainArc};
 ghost use Rattle.explore.specs.Tables.{Configured, Tabled, Safe, Met};
 use super::Explored;
+use super::map::BLOCK_ARCS;
 use super::map::CONFIG_HEADS;
 use super::map::CONFIG_NEXTS;
 use super::map::CONFIGS;
@@ -59,7 +60,7 @@ fn list_arc(w: &mut [u64], base: usize, plain: usize, letter: usize, target: usi
     ensures listed { λ _. ⌜ ((k : ℕ) → field (now (w .exit)) (arcsAt base) k ≡ cond (ltb plain 2048 && eqb k plain) (letter * 256 + target) (field (now (w .entry)) (arcsAt base) k)) ⌝ }
 {
     if plain < 2048 {
-        put16(w, base + 1024, plain, letter * 256 + target);
+        put16(w, base + BLOCK_ARCS, plain, letter * 256 + target);
     }
 }
 

@@ -21,6 +21,7 @@ use super::arcs::index_arcs;
 use super::arcs::link_arcs;
 use super::map::ARC_HEADS;
 use super::map::ARC_NEXTS;
+use super::map::BLOCK_STARTS;
 use super::map::CONFIG_HEADS;
 use super::map::CONFIGS;
 use super::map::OFFSETS;
@@ -112,7 +113,7 @@ fn note_start(w: &mut [u64], base: usize, c: usize, plain: usize)
     ensures noted { λ _. ⌜ ((s : ℕ) → field (now (w .exit)) (startsAt base) s ≡ cond (leb plain 2048 && eqb s c) plain (field (now (w .entry)) (startsAt base) s)) ⌝ }
 {
     if plain <= 2048 {
-        put16(w, base + 1536, c, plain);
+        put16(w, base + BLOCK_STARTS, c, plain);
     }
 }
 

@@ -23,9 +23,9 @@ use Rattle.memory.specs.Frame.{Kept}
 use Rattle.sets.specs.Rows.{Closure, Link, related}
 use Rattle.table.specs.FileSteps.{Findable}
 use Rattle.table.specs.Membership.{judged, membershipOf, unlessFault}
-use Rattle.table.specs.Words.{Builds, Built, Ready, letterSets}
+use Rattle.table.specs.Words.{Builds, Built, Ready, Stored, letterSets}
 use Rattle.table.specs.declared.Membership.the-variants.{Refused}
-use Rattle.table.proofs.Building.{explored-built}
+use Rattle.table.proofs.Building.{explored-built, explored-stored}
 use Rattle.table.proofs.FileCovers.{built-findable}
 use Rattle.table.proofs.Judging.{judge-beyond}
 
@@ -37,10 +37,13 @@ few-letters file c h y = omega (arith, letters-length c file (omega (arith, y .l
 -- what exploring leaves, with its rows closed
 pub builds-tables : (file : List ℕ) (c : Counts) {w w' : List ℕ} {base k p : ℕ} → c .letters ≤ 64 → Walkable c file → Placed w base → Explores (decoded c file) 256 w base (Tables k p)
     → Kept base (base + 4 * k) w w' → ((i j : ℕ) → i < k → T (related w' base i j) ↔ Closure (Link k (related w base)) i j) → Builds (decoded c file) 256 w' base (Tables k p)
-builds-tables file c {w} {w'} {base} {k} {p} h y place found kept closed = record { answer = found .answer; block = (built, built-findable file c (y .lies) built (configured-kept (λ j l g. kept .below j (omega (arith, place .above))) (found .block .configured))) }
+builds-tables file c {w} {w'} {base} {k} {p} h y place found kept closed = record { answer = found .answer; block = (built, (stored, built-findable file c (y .lies) built stored (configured-kept (λ j l g. kept .below j (omega (arith, place .above))) (found .block .configured)))) }
   where
     built : Built (decoded c file) 256 w' base k p
     built = explored-built (decoded c file) 256 found (found .block .configured .few) (place .above) kept closed (few-letters file c h y)
+
+    stored : Stored (decoded c file) 256 w' k
+    stored = explored-stored (decoded c file) 256 found (found .block .configured .few) (place .above) kept
 
 -- ---- a valid file
 pub valid-walkable : (file : List ℕ) (c : Counts) → readingOf file ≡ Valid c → Walkable c file
@@ -51,11 +54,12 @@ valid-few file c e = valid-ranges file c e .letters
 
 -- its automaton, once it is built from a place above the sets of the letters on, can be judged
 pub built-ready : {file w : List ℕ} {c : Counts} {base k p : ℕ} → readingOf file ≡ Valid c → Placed w base → letterSets + 256 ≤ base → Indexed c file w → Linked c file w
-    → Built (decoded c file) 256 w base k p → Findable w k → Ready file c w base k p
-built-ready {file} {w} {c} e place high i l b f = record {
+    → Built (decoded c file) 256 w base k p → Stored (decoded c file) 256 w k → Findable w k → Ready file c w base k p
+built-ready {file} {w} {c} e place high i l b t f = record {
   few-letters = valid-few file c e;
   formed = subst WellFormed (valid-decoded file c e) (valid-wellFormed file c e);
   built = b;
+  stored = t;
   steps = record { room = record { block = place .block; rows = omega (arith, place .block); apart = inl high }; starts = b .starts; walkable = valid-walkable file c e; indexed = i; linked = l; findable = f };
   above = place .above;
 }

@@ -8,9 +8,10 @@ use native.Mathlib.Omega.{arith}
 use borrow.Author.Tests.{ltb-true}
 use lib.Dec.{T, ltb}
 use lib.ListN.{getD, length}
+use Rattle.automata.specs.Automaton.{Automaton}
 use Rattle.automata.specs.Live.{PlainArc}
 use Rattle.automata.proofs.ListLaws.{iff-trans}
-use Rattle.explore.specs.Map.{arcsAt, blockEnd, startsAt}
+use Rattle.explore.specs.Map.{KeptBut, arcsAt, blockEnd, startsAt}
 use Rattle.memory.specs.Fields.{field}
 use Rattle.memory.specs.Frame.{Kept}
 use Rattle.memory.proofs.Laws.{field-same}
@@ -18,6 +19,7 @@ use Rattle.sets.specs.Sets.{inSet}
 use Rattle.sets.specs.Rows.{related}
 use Rattle.sets.proofs.Laws.{row-same}
 use Rattle.table.specs.Stepping.{Among, FromList, Held, Room, Starts, endAt, startAt}
+use Rattle.table.specs.Words.{Built}
 
 -- the words of the block are as they were
 pub record SameBlock (base : ℕ) (w w' : List ℕ) : Type 0 where
@@ -27,6 +29,10 @@ pub record SameBlock (base : ℕ) (w w' : List ℕ) : Type 0 where
 -- what was written stands below the block or above it
 pub block-kept : {base a b : ℕ} {w w' : List ℕ} → Kept a b w w' → (b ≤ base) ⊎ (blockEnd base ≤ a) → SameBlock base w w'
 block-kept k s = record { long = k .long; words = λ i l h. ⊎-elim (λ u. k .above i (omega arith)) (λ u. k .below i (omega arith)) s }
+
+-- two parts were written, the first below the block, the second below it or above it
+pub block-but : {base a b c d : ℕ} {w w' : List ℕ} → KeptBut a b c d w w' → b ≤ base → (blockEnd base ≤ c) ⊎ (d ≤ base) → SameBlock base w w'
+block-but k h s = record { long = k .long; words = λ i l g. ⊎-elim (λ u. k .between i (omega arith) (omega arith)) (λ u. k .above i (omega arith)) s }
 
 -- an end of the listed arcs is a place of the list
 pub end-few : {w : List ℕ} {base count plain : ℕ} (c : ℕ) → Starts w base count plain → endAt w base count plain c ≤ 2048
@@ -96,3 +102,13 @@ module _ {w w' : List ℕ} {base : ℕ} (b : SameBlock base w w') where
 -- what tells the plain arcs tells them still where it says the same of other words
 pub held-same : {count letters : ℕ} {arcs : List PlainArc} {From From' : ℕ → ℕ → ℕ → Type 0} → ((s l j : ℕ) → s < count → From' s l j ↔ From s l j) → Held count letters arcs From → Held count letters arcs From'
 held-same f held = record { within = held .within; covers = λ s l j h g. iff-trans (f s l j h) (held .covers s l j h g) }
+
+-- THE LAW. A built automaton is built still.
+pub built-kept : {x : Automaton} {L : ℕ} {w w' : List ℕ} {base k p : ℕ} → SameBlock base w w' → k ≤ 256 → Built x L w base k p → Built x L w' base k p
+built-kept b few built = record {
+  many = built .many;
+  ended = built .ended;
+  rows = λ i j h. rw (related-kept b i j (omega arith)) (built .rows i j h);
+  held = λ h. held-same (λ i l j g. list-kept b i (built .starts h) g refl refl l j) (built .held h);
+  starts = λ h. starts-kept b (built .starts h);
+}

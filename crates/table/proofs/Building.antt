@@ -2,7 +2,7 @@
 use mathlib.Core.Path.{_∙_, _≡_, ap, refl, sym}
 use mathlib.Core.Logic.{_↔_, _⊎_, inr, ⊎-elim}
 use mathlib.Core.Bool.{Bool}
-use mathlib.Core.List.{List, List·Memᴰ, Memᴰ·cast, [], map}
+use mathlib.Core.List.{List, List·Memᴰ, Memᴰ·cast, []}
 use mathlib.Core.Option.{Option, Option·map, Option·some-injective, none, some}
 use Prim.Native.Nat.{_%_, _*_, _+_, _/_, _<_, _≤_, suc, zero, ℕ}
 use native.Mathlib.Decide.{decLt}
@@ -11,8 +11,8 @@ use native.Mathlib.Numerals.{add-one}
 use native.Mathlib.Omega.{arith}
 use borrow.Author.Tests.{le-ltb, lt-ltb}
 use lib.Dec.{T, eqb, eqb→eq}
-use lib.ListN.{drop, getD, getElem?, length, length-drop, length-take, take}
-use lib.Seq.{ext-getD, getD-drop, getD-take, take-all}
+use lib.ListN.{getElem?, length}
+use lib.Seq.{take-all}
 use Rattle.automata.specs.Automaton.{Automaton, Configuration, Run, letters, silent, stay}
 use Rattle.automata.specs.Lists.{countFrom}
 use Rattle.automata.specs.Live.{Moves, PlainArc, epsilonClosure, table}
@@ -22,9 +22,9 @@ use Rattle.automata.proofs.LiveLaws.{epsilonClosure-iff, in-table, length-round
 use Rattle.automata.proofs.UnfoldingLaws.{first-configuration, within}
 use Rattle.explore.specs.Explores.{Block, Explores, exploredOf, startOf}
 use Rattle.explore.specs.Map.{arcsAt, configs, mapEnd, startsAt}
-use Rattle.explore.specs.Packed.{pack}
 use Rattle.explore.specs.Tables.{fieldsOf, listed}
 use Rattle.explore.specs.declared.Explored.the-variants.{Tables, TooMany}
+use Rattle.explore.proofs.Frames.{part-same}
 use Rattle.format.specs.Encoding.{letterByte}
 use Rattle.memory.specs.Fields.{field}
 use Rattle.memory.specs.Frame.{Kept}
@@ -33,7 +33,7 @@ use Rattle.sets.specs.Sets.{Within, view}
 use Rattle.sets.specs.Rows.{Link, Closure, here, next, related, row}
 use Rattle.sets.proofs.Laws.{view-is}
 use Rattle.table.specs.Stepping.{Among, endAt, startAt}
-use Rattle.table.specs.Words.{Built}
+use Rattle.table.specs.Words.{Built, Stored}
 use Rattle.table.proofs.PlainPlaces.{before-le, source-at}
 
 -- ---- fields
@@ -51,11 +51,6 @@ fields-at w at n j h = at-map (λ i. field w at i) (countFrom 0 n) j ∙ ap (Opt
 letter-some : (o : Option ℕ) (l : ℕ) → letterByte o ≡ l → l < 255 → o ≡ some l
 letter-some none l e h = absurd (omega arith)
 letter-some (some a) l e h = ap some e
-
--- a part of the words that is as it was
-part-same : (w w' : List ℕ) (at n : ℕ) → length w' ≡ length w → ((i : ℕ) → i < n → getD w' (at + i) 0 ≡ getD w (at + i) 0) → take n (drop at w') ≡ take n (drop at w)
-part-same w w' at n e f = ext-getD 0 (take n (drop at w')) (take n (drop at w)) (simp (length-take, length-drop, e))
-    (λ i h. let l : i < n = omega (arith, simp (length-take, length-drop) at h) in simp (getD-take, getD-drop) (f i l))
 
 -- ---- rows
 -- where row i holds i and what one empty move leads to, paths through rows are runs of empty moves
@@ -133,16 +128,12 @@ module _ (x : Automaton) (L : ℕ) (fits : length (configurations x L) ≤ L) {w
         record { at = f .0; low = range .0; high = range .1; letter = omega arith; leads = rw enters ((rows-run (q .0) j small) .1 (q .2)) },
   )
 
-  configured : take k (drop configs w') ≡ map pack (configurations x L)
-  configured = part-same w w' configs k (kept .long) (λ i h. kept .below (configs + i) (omega arith)) ∙ block .table
-
   -- THE LAW of building.
   pub built : letters x ≤ 255 → Built x L w' base k p
   unfolding startOf plainArcs
   built short = record {
     many = many;
     ended = rw many fits;
-    configured = configured;
     rows = rows-run;
     held = λ h. record { within = inside; covers = covers short h };
     starts = λ h. record { few = few; less = h; each = λ c l. omega (arith, start-is h c l, before-le x (configurations x L) 0 (configurations x L) c) };
@@ -166,6 +157,10 @@ pub explored-built : (x : Automaton) (L : ℕ) {w w' : List ℕ} {base k p : ℕ
 explored-built x L {k = k} {p} found few above kept closed short =
     let a = explored-few x L k p (found .answer) in
     built x L (a .0) (a .1) (a .2) few above (found .block) kept closed short
+
+-- The configurations stand where exploring left them.
+pub explored-stored : (x : Automaton) (L : ℕ) {w w' : List ℕ} {base k p : ℕ} → Explores x L w base (Tables k p) → k ≤ 256 → mapEnd ≤ base → Kept base (base + 4 * k) w w' → Stored x L w' k
+explored-stored x L {w} {w'} {k = k} found few above kept = part-same w w' configs k (kept .long) (λ i h. kept .below (configs + i) (omega arith)) ∙ found .block .table
 
 -- ---- the start of a walk over words
 -- Row 0 of a built block is the live set of the empty word.

@@ -25,13 +25,13 @@ use Rattle.format.specs.declared.Counts.{Counts}
 use Rattle.memory.specs.Frame.{Kept}
 use Rattle.table.specs.FileSteps.{Findable, FromFile, Outgoing, Steppable}
 use Rattle.table.specs.Stepping.{Held}
-use Rattle.table.specs.Words.{Built}
+use Rattle.table.specs.Words.{Built, Stored}
 use Rattle.table.proofs.BlockFrame.{block-kept, held-same, list-kept}
 use Rattle.table.proofs.FileVisits.{from-kept, map-kept}
 use Rattle.table.proofs.FinalLaws.{word-in}
 
 -- the automaton of a file is built
-module _ (file : List ℕ) (c : Counts) {L : ℕ} {w : List ℕ} {base k p : ℕ} (lies : Lies (c .registers) (c .arcs) (firstArc c) file) (b : Built (decoded c file) L w base k p) where
+module _ (file : List ℕ) (c : Counts) {L : ℕ} {w : List ℕ} {base k p : ℕ} (lies : Lies (c .registers) (c .arcs) (firstArc c) file) (b : Built (decoded c file) L w base k p) (stored : Stored (decoded c file) L w k) where
   abbrev x : Automaton
   x = decoded c file
 
@@ -50,7 +50,7 @@ module _ (file : List ℕ) (c : Counts) {L : ℕ} {w : List ℕ} {base k p : ℕ
   packed d g = hops-packed (c .registers) (lies .registers) d g (c .arcs) (drop (firstArc c) file) (lies .ok)
 
   entry : (i : ℕ) → i < k → (d : Configuration) × (getElem? (configurations (decoded c file) L) i ≡ some d) × (getD w (configs + i) 0 ≡ pack d)
-  entry = word-in w k all (b .configured) (b .many)
+  entry = word-in w k all stored (b .many)
 
   -- the word of configuration d, and no other word, is d packed
   word-of : (i : ℕ) (d : Configuration) → getElem? (configurations (decoded c file) L) i ≡ some d → getD w (configs + i) 0 ≡ pack d
@@ -109,9 +109,9 @@ module _ (file : List ℕ) (c : Counts) {L : ℕ} {w : List ℕ} {base k p : ℕ
   file-held = record { within = λ a m. rw (b .many) (within (decoded c file) L fits a m); covers = λ s l j h g. (onward s l j h, back s l j h) }
 
 -- the plain arcs of a built automaton are told, and are so still where only the sets of letters have changed
-pub built-outgoing : (file : List ℕ) (c : Counts) {L : ℕ} {w w' : List ℕ} {base acc k p : ℕ} → mapEnd ≤ acc → Steppable file c w base acc k p → Kept acc (acc + 256) w w' → Built (decoded c file) L w base k p
+pub built-outgoing : (file : List ℕ) (c : Counts) {L : ℕ} {w w' : List ℕ} {base acc k p : ℕ} → mapEnd ≤ acc → Steppable file c w base acc k p → Kept acc (acc + 256) w w' → Built (decoded c file) L w base k p → Stored (decoded c file) L w k
     → Outgoing file c w' base k p (letters (decoded c file)) (plainArcs (decoded c file) L)
-built-outgoing file c h s kept b = record {
+built-outgoing file c h s kept b t = record {
   listed = λ l. held-same (λ i m j g. list-kept (block-kept kept (s .room .apart)) i (s .starts l) g refl refl m j) (b .held l);
-  filed = λ l. held-same (λ i m j g. from-kept (map-kept h (s .room) (s .findable .configured .few) kept) file c i g m j) (file-held file c (s .walkable .lies) b);
+  filed = λ l. held-same (λ i m j g. from-kept (map-kept h (s .room) (s .findable .configured .few) kept) file c i g m j) (file-held file c (s .walkable .lies) b t);
 }

@@ -9,7 +9,6 @@ use native.Mathlib.Omega.{arith}
 use borrow.Author.Tests.{ne-eqb}
 use lib.Dec.{T, eqb, eqb→eq}
 use lib.ListN.{drop, getD}
-use lib.Seq.{drop-drop, getD-drop}
 use Rattle.automata.specs.Lists.{collect, prepend}
 use Rattle.automata.proofs.ListLaws.{and-iff, eqb-iff, or-iff}
 use Rattle.explore.specs.Arcs.{ArcAt, Indexed, Linked, Walkable, placeOf}
@@ -17,6 +16,7 @@ use Rattle.explore.specs.Map.{arcHeads, arcNexts, configs, mapEnd, offsets}
 use Rattle.explore.specs.Packed.{Hop, hop, hopWith, hops, performPacked}
 use Rattle.explore.specs.declared.Outcome.{Outcome}
 use Rattle.explore.specs.declared.Outcome.the-variants.{Failed, Leaves}
+use Rattle.explore.proofs.Going.{hop-at}
 use Rattle.explore.proofs.Linking.{hops-chosen, hopsOf, indexed-kept, linked-kept, stateOf}
 use Rattle.explore.proofs.Places.{entry-at}
 use Rattle.explore.proofs.Tabling.{configured-kept}
@@ -43,11 +43,6 @@ pub record Passes (file : List ℕ) (at own : ℕ) (w : List ℕ) (base known p 
   pub few : to < known
   pub is : getD w (configs + to) 0 ≡ regs + getD file (at + 2) 0 * 2 ^ 32
   pub leads : T (related w base to j)
-
-hop-at : (file : List ℕ) (at own : ℕ)
-    → hop (drop at file) own ≡ hopWith (performPacked (getD file (at + 3) 0) (drop (at + 4) file) (own % 2 ^ 32)) (letterOf (getD file (at + 1) 0)) (getD file (at + 2) 0)
-unfolding hop
-hop-at file at own = rw (getD-drop at file 1 0, getD-drop at file 2 0, getD-drop at file 3 0, drop-drop 4 at file)
 
 letter-is : (b p : ℕ) → letterOf b ≡ some p → b ≡ p
 unfolding letterOf

@@ -100,8 +100,8 @@ module _ {file : List ℕ} {c : Counts} {w : List ℕ} {base k p : ℕ} (r : Rea
 
   pub ready-flags : (i : ℕ) → i < k → flagPlace c (stateIn w i) < length file
   unfolding decoded
-  ready-flags = flag-inside (decoded c file) c file refl (c .registers) (r .steps .walkable .lies .registers) w k (configurations (decoded c file) 256) (r .built .configured) (r .built .many) good small reach
+  ready-flags = flag-inside (decoded c file) c file refl (c .registers) (r .steps .walkable .lies .registers) w k (configurations (decoded c file) 256) (r .stored) (r .built .many) good small reach
 
   pub ready-finals : (set : List ℕ) → ((j : ℕ) → inSet set j ≡ (ltb j k && isFinalIn file c w j)) → view k set ≡ finalSet (decoded c file) (configurations (decoded c file) 256)
   unfolding decoded
-  ready-finals set e = final-view (decoded c file) c file refl (c .registers) (r .steps .walkable .lies .registers) w k (configurations (decoded c file) 256) (r .built .configured) (r .built .many) good small set e .0
+  ready-finals set e = final-view (decoded c file) c file refl (c .registers) (r .steps .walkable .lies .registers) w k (configurations (decoded c file) 256) (r .stored) (r .built .many) good small set e .0

@@ -27,7 +27,7 @@ use Rattle.memory.proofs.Laws.{kept-same, kept-then}
 use Rattle.sets.specs.Sets.{Within, view}
 use Rattle.sets.proofs.Laws.{empty-set, table-ext}
 use Rattle.table.specs.FileSteps.{Outgoing}
-use Rattle.table.specs.Words.{Built, letterSets, liveBytes}
+use Rattle.table.specs.Words.{Built, Stored, letterSets, liveBytes}
 
 -- ---- the letter that a byte stands for
 -- a letter's number, where there is one, moved by i
@@ -106,35 +106,35 @@ empty-view k = (table-ext k (λ j h. empty-set j), λ j t. absurd (subst T (empt
 pub record Walking (x : Automaton) (word w₀ : List ℕ) (base count plain : ℕ) (set₀ w set : List ℕ) (i : ℕ) : Type 0 where
   pub few : i ≤ length word
   pub kept : Kept letterSets (letterSets + 256) w₀ w
-  pub live : (L : ℕ) → Built x L w₀ base count plain → Within count set₀ → (liveBytes x L count (view count set₀) word ≡ liveBytes x L count (view count set) (drop i word)) × Within count set
+  pub live : (L : ℕ) → Built x L w₀ base count plain → Stored x L w₀ count → Within count set₀ → (liveBytes x L count (view count set₀) word ≡ liveBytes x L count (view count set) (drop i word)) × Within count set
 
 pub walking-start : (x : Automaton) (word w : List ℕ) (base count plain : ℕ) (set : List ℕ) → Walking x word w base count plain set w set 0
-walking-start x word w base count plain set = record { few = omega arith; kept = kept-same letterSets (letterSets + 256) w; live = λ L b s. (refl, s) }
+walking-start x word w base count plain set = record { few = omega arith; kept = kept-same letterSets (letterSets + 256) w; live = λ L b t s. (refl, s) }
 
 module _ {x : Automaton} {word w₀ w : List ℕ} {base count plain : ℕ} {set₀ set : List ℕ} {i : ℕ} (v : Walking x word w₀ base count plain set₀ w set i) where
   rest : i < length word → drop i word ≡ getD word i 0 ∷ drop (i + 1) word
   rest h = rw (add-one i) (drop-cons word i 0 h)
 
   -- a turn with a letter
-  pub walking-more : {file : List ℕ} {c : Counts} {w' next : List ℕ} {l : ℕ} → ((L : ℕ) → Built x L w₀ base count plain → Outgoing file c w base count plain (letters x) (plainArcs x L))
+  pub walking-more : {file : List ℕ} {c : Counts} {w' next : List ℕ} {l : ℕ} → ((L : ℕ) → Built x L w₀ base count plain → Stored x L w₀ count → Outgoing file c w base count plain (letters x) (plainArcs x L))
       → letters x ≤ 64 → i < length word → letterNumber (getD word i 0) (x .alphabet) ≡ At l → Kept letterSets (letterSets + 256) w w'
       → ((letters : ℕ) (arcs : List PlainArc) → Outgoing file c w base count plain letters arcs → letters ≤ 64 → Within count set → l < letters → (view count next ≡ byLetter count arcs (view count set) l) × Within count next)
       → Walking x word w₀ base count plain set₀ w' next (i + 1)
   walking-more {l = l} o few h e k f = record {
     few = omega arith;
     kept = kept-then (v .kept) k;
-    live = λ L b z.
-        let p = v .live L b z in
-        let q = f (letters x) (plainArcs x L) (o L b) few (p .1) (letter-lt (getD word i 0) l (x .alphabet) e) in
+    live = λ L b t z.
+        let p = v .live L b t z in
+        let q = f (letters x) (plainArcs x L) (o L b t) few (p .1) (letter-lt (getD word i 0) l (x .alphabet) e) in
         (p .0 ∙ rw (rest h) (live-letter x L count (view count set) (getD word i 0) l (drop (i + 1) word) e) ∙ ap (λ (S : List Bool). liveBytes x L count S (drop (i + 1) word)) (sym (q .0)), q .1);
   }
 
   -- a byte that is no letter
-  pub walking-foreign : i < length word → letterNumber (getD word i 0) (x .alphabet) ≡ None → (L : ℕ) → Built x L w₀ base count plain → Within count set₀
+  pub walking-foreign : i < length word → letterNumber (getD word i 0) (x .alphabet) ≡ None → (L : ℕ) → Built x L w₀ base count plain → Stored x L w₀ count → Within count set₀
       → (view count (0 ∷ 0 ∷ 0 ∷ 0 ∷ []) ≡ liveBytes x L count (view count set₀) word) × Within count (0 ∷ 0 ∷ 0 ∷ 0 ∷ [])
-  walking-foreign h e L b z =
+  walking-foreign h e L b t z =
       let m = empty-view count in
-      (m .0 ∙ sym (v .live L b z .0 ∙ rw (rest h) (live-foreign x L count (view count set) (getD word i 0) (drop (i + 1) word) e)), m .1)
+      (m .0 ∙ sym (v .live L b t z .0 ∙ rw (rest h) (live-foreign x L count (view count set) (getD word i 0) (drop (i + 1) word) e)), m .1)
 
-  pub walking-end : length word ≤ i → (L : ℕ) → Built x L w₀ base count plain → Within count set₀ → (view count set ≡ liveBytes x L count (view count set₀) word) × Within count set
-  walking-end h L b z = let p = v .live L b z in (sym (p .0 ∙ rw (drop-of-length-le word h) (live-end x L count (view count set))), p .1)
+  pub walking-end : length word ≤ i → (L : ℕ) → Built x L w₀ base count plain → Stored x L w₀ count → Within count set₀ → (view count set ≡ liveBytes x L count (view count set₀) word) × Within count set
+  walking-end h L b t z = let p = v .live L b t z in (sym (p .0 ∙ rw (drop-of-length-le word h) (live-end x L count (view count set))), p .1)

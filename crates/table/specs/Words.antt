@@ -25,19 +25,23 @@ use Rattle.table.specs.Stepping.{FromList, Held, Starts}
 abbrev pub letterSets : ℕ
 letterSets = 4480
 
--- x has k configurations, at most L; the words hold them, the closed rows of its block, and, where they fit, its p plain arcs
+-- x has k configurations, at most L; its block holds its closed rows and, where they fit, its p plain arcs
 pub record Built (x : Automaton) (L : ℕ) (w : List ℕ) (base k p : ℕ) : Type 0 where
   pub many : k ≡ length (configurations x L)
   pub ended : k ≤ L
-  pub configured : take k (drop configs w) ≡ map pack (configurations x L)
   pub rows : (i j : ℕ) → i < k → T (related w base i j) ↔ Run (Moves (plainArcs x L)) i [] j
   pub held : p ≤ 2048 → Held k (letters x) (plainArcs x L) (FromList w base k p)
   pub starts : p ≤ 2048 → Starts w base k p
 
--- what building answers and leaves: more than L configurations, or how many configurations and plain arcs there are, and their block
+-- the k configurations of x stand in the words, in the order of their numbers; they do until another automaton is built
+abbrev pub Stored : Automaton → ℕ → List ℕ → ℕ → Type 0
+Stored x L w k = take k (drop configs w) ≡ map pack (configurations x L)
+
+-- what building answers and leaves: more than L configurations, or how many configurations and plain arcs there are, their block and
+-- the configurations, each to be found
 abbrev pub BuiltAs : Automaton → ℕ → List ℕ → ℕ → Explored → Type 0
 BuiltAs x L w base TooMany = Unit {0}
-BuiltAs x L w base (Tables k p) = Built x L w base k p × Findable w k
+BuiltAs x L w base (Tables k p) = Built x L w base k p × (Stored x L w k × Findable w k)
 
 pub record Builds (x : Automaton) (L : ℕ) (w : List ℕ) (base : ℕ) (r : Explored) : Type 0 where
   pub answer : r ≡ exploredOf x L
@@ -52,5 +56,6 @@ pub record Ready (file : List ℕ) (c : Counts) (w : List ℕ) (base k p : ℕ) 
   pub few-letters : c .letters ≤ 64
   pub formed : WellFormed (decoded c file)
   pub built : Built (decoded c file) 256 w base k p
+  pub stored : Stored (decoded c file) 256 w k
   pub steps : Steppable file c w base letterSets k p
   pub above : mapEnd ≤ base

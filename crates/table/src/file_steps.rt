@@ -17,24 +17,17 @@ ghost use Rattle.table.specs.Stepping.{setOf, Held, Room};
 ghost use Rattle.table.specs.FileSteps.{Led, FromFile, Findable};
 use super::stepping::into;
 use explore::Outcome;
+use explore::map::ARC_HEADS;
+use explore::map::ARC_NEXTS;
+use explore::map::CONFIG_HEADS;
+use explore::map::CONFIG_NEXTS;
+use explore::map::CONFIGS;
+use explore::map::OFFSETS;
 use explore::operations::pass;
 use format::Counts;
 use format::fields::byte;
 use memory::chains::find_word;
 use memory::get16;
-
-// Where exploring leaves the places of the arcs, their chains by state, and the configurations with their chains.
-const OFFSETS: usize = 2048;
-
-const ARC_NEXTS: usize = 2560;
-
-const ARC_HEADS: usize = 3072;
-
-const CONFIGURATIONS: usize = 3136;
-
-const CONFIGURATION_HEADS: usize = 3392;
-
-const CONFIGURATION_NEXTS: usize = 3520;
 
 // The arc at a place of the file, from the configuration `own`: where it has a letter and passes, the row of the configuration that
 // it leads to joins the set of its letter.
@@ -61,14 +54,7 @@ fn take_arc(
         return met;
     };
     let key = regs + ((byte(file, at + 2) as u64) << 32);
-    let t = find_word(
-        w,
-        CONFIGURATIONS,
-        CONFIGURATION_HEADS,
-        CONFIGURATION_NEXTS,
-        known,
-        key,
-    );
+    let t = find_word(w, CONFIGS, CONFIG_HEADS, CONFIG_NEXTS, known, key);
     if t < known {
         return into(w, base, acc, letter, t, met);
     }
@@ -92,7 +78,7 @@ fn visit_file(
     ensures kept { λ _. ⌜ Kept acc (acc + 256) (now (w .entry)) (now (w .exit)) ⌝ }
     ensures set { λ r. ⌜ ((p j : ℕ) → p < 64 → T (inSet (setOf (now (w .exit)) acc r p) j) ↔ (T (inSet (setOf (now (w .entry)) acc met p) j) ⊎ FromFile (now (file .entry)) counts (now (w .entry)) base known c p j)) ⌝ }
 {
-    let own = w[CONFIGURATIONS + c];
+    let own = w[CONFIGS + c];
     let mut out = met;
     let mut j = get16(w, ARC_HEADS, (own >> 32) as usize);
     while j < counts.arcs {

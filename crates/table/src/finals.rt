@@ -7,10 +7,8 @@ ghost use lib.ListN.{length};
 ghost use Rattle.explore.specs.Map.{configs};
 ghost use Rattle.sets.specs.Sets.{inSet};
 ghost use Rattle.table.specs.Finals.{stateIn, flagPlace, isFinalIn};
+use explore::map::CONFIGS;
 use format::Counts;
-
-// Where the configurations stand.
-const CONFIGURATIONS: usize = 3136;
 
 // The final ones among the first `known` configurations, of the automaton whose file has the counts c.
 // Cost: one look at each configuration.
@@ -22,7 +20,7 @@ pub fn final_set(file: &[u8], c: Counts, w: &[u64], known: usize) -> [u64; 4]
     let mut out = sets::empty();
     let mut i: usize = 0;
     while i < known {
-        let state = (w[CONFIGURATIONS + i] >> 32) as usize;
+        let state = (w[CONFIGS + i] >> 32) as usize;
         if file[flags + state] == 1 {
             let more = sets::with(out, i);
             out = more;

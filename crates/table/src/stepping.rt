@@ -13,11 +13,8 @@ ghost use Rattle.memory.specs.Frame.{Kept};
 ghost use Rattle.sets.specs.Sets.{inSet, view, Within};
 ghost use Rattle.sets.specs.Rows.{related};
 ghost use Rattle.table.specs.Stepping.{setOf, endAt, Among, FromList, Held, Room, Starts};
-
-// Where a block has its plain arcs and their starts, from its first word on.
-const ARCS: usize = 1024;
-
-const STARTS: usize = 1536;
+use explore::map::BLOCK_ARCS;
+use explore::map::BLOCK_STARTS;
 
 // The set of letter l; empty where l is not met.
 // Cost: constant.
@@ -60,7 +57,7 @@ fn visit(w: &mut [u64], base: usize, acc: usize, from: usize, to: usize, met: u6
     let mut out = met;
     let mut k = from;
     while k < to {
-        let arc = memory::get16(w, base + ARCS, k);
+        let arc = memory::get16(w, base + BLOCK_ARCS, k);
         if arc / 256 < 64 {
             out = into(w, base, acc, arc / 256, arc % 256, out);
         }
@@ -76,7 +73,7 @@ fn end_of(w: &[u64], base: usize, count: usize, plain: usize, c: usize) -> usize
     ensures { λ r. ⌜ r ≡ endAt (now (w .entry)) base count plain c ⌝ }
 {
     if c + 1 < count {
-        memory::get16(w, base + STARTS, c + 1)
+        memory::get16(w, base + BLOCK_STARTS, c + 1)
     } else {
         plain
     }
@@ -101,7 +98,7 @@ pub fn step(
     let mut met: u64 = 0;
     let mut c = sets::next_live(set, 0);
     while c < count {
-        let from = memory::get16(w, base + STARTS, c);
+        let from = memory::get16(w, base + BLOCK_STARTS, c);
         let to = end_of(w, base, count, plain, c);
         met = visit(w, base, acc, from, to, met);
         c = sets::next_live(set, c + 1);

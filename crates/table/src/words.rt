@@ -7,7 +7,7 @@ ghost use Rattle.format.specs.Decoding.{decoded};
 ghost use Rattle.memory.specs.Frame.{Kept};
 ghost use Rattle.sets.specs.Sets.{view, Within};
 ghost use Rattle.table.specs.FileSteps.{Outgoing, Steppable};
-ghost use Rattle.table.specs.Words.{letterSets, Built, Ready, liveBytes};
+ghost use Rattle.table.specs.Words.{letterSets, Built, Stored, Ready, liveBytes};
 ghost use Rattle.table.specs.Membership.{judged};
 use super::Membership;
 use super::file_steps::step_file;
@@ -60,7 +60,7 @@ pub fn walk_word(
 ) -> [u64; 4]
     requires { ⌜ (c .letters ≤ 64) × Steppable (now file) c (now w) base letterSets count plain ⌝ }
     ensures kept { λ _. ⌜ Kept letterSets (letterSets + 256) (now (w .entry)) (now (w .exit)) ⌝ }
-    ensures set { λ r. ⌜ ((L : ℕ) → Built (decoded c (now (file .entry))) L (now (w .entry)) base count plain → Within count from
+    ensures set { λ r. ⌜ ((L : ℕ) → Built (decoded c (now (file .entry))) L (now (w .entry)) base count plain → Stored (decoded c (now (file .entry))) L (now (w .entry)) count → Within count from
         → (view count r ≡ liveBytes (decoded c (now (file .entry))) L count (view count from) (now (word .entry))) × Within count r) ⌝ }
 {
     let mut set = from;

@@ -29,7 +29,7 @@ answer c =
     let s = f .before .before .before .before .before in
     let r = s .pre in
     let e : o .load .result ≡ row (s .args .w .now) (s .args .base) 0 = o .load .ensures in
-    let w = v .walk-word .ensures .1 256 (r .built) (rw e (row-start (r .built) .1)) in
+    let w = v .walk-word .ensures .1 256 (r .built) (r .stored) (rw e (row-start (r .built) .1)) in
     judge-is (s .args .word .now) (v .walk-word .result) (f .final-set .result) (c .meets .result) (c .before .size .result) (r .built) (r .built .ended) (rw e at (w .0)) (w .1) (ready-finals r (f .final-set .result) (f .final-set .ensures)) (c .meets .ensures) (c .before .size .ensures)
 
 returns : tie.Need-returns

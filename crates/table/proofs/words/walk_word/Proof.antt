@@ -57,7 +57,7 @@ loop-again c =
     let l = i .before in
     let b = l .before .before .before .before in
     let p = b .pre in
-    walking-more (l .loop .inv) (λ L built. built-outgoing (b .args .file .now) (b .args .c) (omega arith) (p .1) (l .loop .inv .kept) built)
+    walking-more (l .loop .inv) (λ L built stored. built-outgoing (b .args .file .now) (b .args .c) (omega arith) (p .1) (l .loop .inv .kept) built stored)
     (omega (arith, letters-length (b .args .c) (b .args .file .now) (omega (arith, p .1 .walkable .lies .fits)), p .0)) (i .loop-test .taken) (letter f) (s .step-letter .ensures .0) (s .step-letter .ensures .1)
 
 same-length-2 : tie.Need-same-length-2 Inv-loop μ-loop
