@@ -1,0 +1,75 @@
+-- Promised: what is promised of comparing (demand 3, and the exact condition of each refusal), with no algorithm in sight.
+use mathlib.Core.Path.{_≡_}
+use mathlib.Core.Logic.{_↔_, _⊎_, _≢_}
+use mathlib.Core.List.{List, [], _∷_}
+use Prim.Native.Nat.{ℕ, _≤_, _<_}
+use lib.Dec.{T}
+use lib.ListN.{drop, length, take}
+use Rattle.automata.specs.Automaton.{Automaton, Reachable}
+use Rattle.automata.specs.Counting.{Counts, MoreThan}
+use Rattle.automata.specs.Pairs.{SomePair}
+use Rattle.automata.specs.Unfolding.{plainArcs}
+use Rattle.automata.specs.Words.{Language}
+use Rattle.format.specs.Decoding.{automatonOf}
+use Rattle.compare.specs.Comparing.{Told, faultOf}
+use Rattle.compare.specs.Compares.{Shown}
+
+-- ---- document 01's refusals in their order: a condition, the number, and the automaton at fault
+abbrev pub automataConditions : Automaton → Automaton → List (Type 0 × ℕ × ℕ)
+automataConditions x y =
+    (x .alphabet ≢ y .alphabet, 10, 0)
+    ∷ (MoreThan (Reachable x) 256, 21, 1)
+    ∷ (2048 < length (plainArcs x 256), 22, 1)
+    ∷ (MoreThan (Reachable y) 256, 21, 2)
+    ∷ (2048 < length (plainArcs y 256), 22, 2)
+    ∷ (MoreThan (SomePair x y 256) 512, 23, 0)
+    ∷ []
+
+abbrev pub conditions : (first second : List ℕ) (words buffer : ℕ) → List (Type 0 × ℕ × ℕ)
+conditions first second words buffer =
+    ((words < 8192) ⊎ (buffer < 512), 24, 0)
+    ∷ (0 < faultOf first, faultOf first, 1)
+    ∷ (0 < faultOf second, faultOf second, 2)
+    ∷ automataConditions (automatonOf first) (automatonOf second)
+
+-- the first condition that holds has the number n and the automaton b
+abbrev pub FirstHolds : List (Type 0 × ℕ × ℕ) → ℕ → ℕ → Type 0
+FirstHolds [] n b = ⊥
+FirstHolds (c ∷ l) n b = (c .0 × (c .1 ≡ n) × (c .2 ≡ b)) ⊎ ((¬ c .0) × FirstHolds l n b)
+
+-- ---- demand 3
+-- its premises: both files are valid and list the same letters; each unfolds within 256 configurations and 2,048 plain arcs; words of
+-- those letters reach at most 512 different pairs of live sets; the lent memory has its stated size
+pub record Premises (first second : List ℕ) (words buffer : ℕ) : Type 0 where
+  pub enough-words : 8192 ≤ words
+  pub enough-bytes : 512 ≤ buffer
+  pub valid₁ : faultOf first ≡ 0
+  pub valid₂ : faultOf second ≡ 0
+  pub same-letters : automatonOf first .alphabet ≡ automatonOf second .alphabet
+  pub configurations₁ : ¬ MoreThan (Reachable (automatonOf first)) 256
+  pub arcs₁ : length (plainArcs (automatonOf first) 256) ≤ 2048
+  pub configurations₂ : ¬ MoreThan (Reachable (automatonOf second)) 256
+  pub arcs₂ : length (plainArcs (automatonOf second) 256) ≤ 2048
+  pub few-pairs : ¬ MoreThan (SomePair (automatonOf first) (automatonOf second) 256) 512
+
+-- every word of bytes, of every length, is accepted by both or by neither; a word with a byte that is no letter is accepted by neither
+abbrev pub OneRule : Automaton → Automaton → Type 0
+OneRule x y = (word : List ℕ) → Language x word ↔ Language y word
+
+-- what is promised of two files, a number of working words, the buffer lent, the buffer afterwards, and the answer as it is told
+pub record Promised (first second : List ℕ) (words : ℕ) (old new : List ℕ) (t : Told) : Type 0 where
+  -- nothing is refused just under the premises
+  pub answers : (t .number ≡ 0) ↔ Premises first second words (length old)
+  -- told the same just if the two are one rule, else told different
+  pub same : T (t .same) ↔ (Premises first second words (length old) × OneRule (automatonOf first) (automatonOf second))
+  pub different : T (t .different) ↔ (Premises first second words (length old) × ¬ OneRule (automatonOf first) (automatonOf second))
+  -- told different, exactly the named automaton accepts the word at the buffer's front, and no word that exactly one accepts is shorter
+  pub shows : T (t .different) → Shown (automatonOf first) (automatonOf second) (t .taker) (take (t .size) new)
+  -- told either, the number is that of the distinct pairs of live sets over all words of the letters
+  pub counts : Premises first second words (length old) → Counts (SomePair (automatonOf first) (automatonOf second) 256) (t .pairs)
+  -- each refusal has its number and its automaton at fault just under its condition, where none before it holds
+  pub refuses : (n b : ℕ) → 0 < n → ((t .number ≡ n) × (t .automaton ≡ b)) ↔ FirstHolds (conditions first second words (length old)) n b
+  -- the bytes behind the shown word are as they were lent; where none is shown, all are, its size being 0
+  pub behind : drop (t .size) new ≡ drop (t .size) old
+  pub none-shown : ¬ T (t .different) → t .size ≡ 0
+  pub whole : t .size ≤ length new
