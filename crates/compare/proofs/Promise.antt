@@ -1,0 +1,217 @@
+-- Promise: what the contract of comparing says of the bytes handed in (demand 3, and the exact condition of each refusal).
+use mathlib.Core.Path.{_≡_, refl, sym, ap, _∙_, subst}
+use mathlib.Core.Logic.{_↔_, _⊎_, inl, inr, ⊎-elim}
+use mathlib.Core.Bool.{Bool, cond, false, true}
+use mathlib.Core.List.{List}
+use Prim.Native.Nat.{ℕ, _≤_, _<_}
+use native.Mathlib.Decide.{decLt}
+use native.Mathlib.Omega.{arith}
+use lib.Dec.{T, eqb}
+use lib.ListN.{drop, length, length-append, take}
+use lib.Seq.{drop-at, take-at}
+use Rattle.automata.specs.Automaton.{Automaton, Reachable, WellFormed}
+use Rattle.automata.specs.Counting.{MoreThan}
+use Rattle.automata.specs.Lists.{sameBy}
+use Rattle.automata.specs.Pairs.{Right, SomePair, Verdict, different, pairs, same, verdict}
+use Rattle.automata.specs.Unfolding.{acceptedBytes, configurations, plainArcs}
+use Rattle.automata.proofs.Laws.{comparing, comparing-more, reaching-more}
+use Rattle.automata.proofs.LanguageLaws.{same-language}
+use Rattle.automata.proofs.ListLaws.{eqb-iff, sameBy-iff}
+use Rattle.format.specs.Decoding.{automatonOf}
+use Rattle.format.specs.Reading.{numberOf, readingOf}
+use Rattle.format.specs.declared.Reading.{Reading}
+use Rattle.format.specs.declared.Reading.the-variants.{Refused as Fault, Valid}
+use Rattle.format.proofs.Promise.{number-range, valid-automaton}
+use Rattle.compare.specs.Comparing.{answerAt, bufferOf, comparedAt, comparisonOf, faultOf, tests, told, unlessRefused}
+use Rattle.compare.specs.Compares.{Compares, Shown, ShownBy}
+use Rattle.compare.specs.Promised.{FirstHolds, OneRule, Premises, Promised, conditions}
+use Rattle.compare.specs.declared.Comparison.{Comparison}
+use Rattle.compare.specs.declared.Comparison.the-variants.{Refused}
+use Rattle.compare.proofs.Refusals.{NoneHolds, refused-or-not, refuses-first, tests-decide}
+
+-- ---- the premises of demand 3 are that no condition of a refusal holds
+module _ (first second : List ℕ) (words buffer : ℕ) where
+  none-of : Premises first second words buffer → NoneHolds (conditions first second words buffer)
+  none-of p = (
+    ⊎-elim (λ h. omega (arith, p .enough-words)) (λ h. omega (arith, p .enough-bytes)),
+    (
+      λ h. omega (arith, p .valid₁),
+      (
+        λ h. omega (arith, p .valid₂),
+        (
+          λ h. h (p .same-letters),
+          (p .configurations₁, (λ h. omega (arith, p .arcs₁), (p .configurations₂, (λ h. omega (arith, p .arcs₂), (p .few-pairs, tt))))),
+        ),
+      ),
+    ),
+  )
+
+  premises-of : NoneHolds (conditions first second words buffer) → Premises first second words buffer
+  premises-of h =
+      let z₁ = at-least 0 (faultOf first) (h .1 .0) in
+      let z₂ = at-least 0 (faultOf second) (h .1 .1 .0) in
+      let l = h .1 .1 .1 in
+      record {
+        enough-words = at-least words 8192 (λ k. h .0 (inl k));
+        enough-bytes = at-least buffer 512 (λ k. h .0 (inr k));
+        valid₁ = omega arith;
+        valid₂ = omega arith;
+        same-letters = not-other (automatonOf first .alphabet) (automatonOf second .alphabet) (l .0);
+        configurations₁ = l .1 .0;
+        arcs₁ = at-least 2048 (length (plainArcs (automatonOf first) 256)) (l .1 .1 .0);
+        configurations₂ = l .1 .1 .1 .0;
+        arcs₂ = at-least 2048 (length (plainArcs (automatonOf second) 256)) (l .1 .1 .1 .1 .0);
+        few-pairs = l .1 .1 .1 .1 .1 .0;
+      }
+    where
+      at-least : (m n : ℕ) → ¬ (m < n) → n ≤ m
+      at-least m n k = go (decLt m n)
+        where
+          go : Dec (m < n) → n ≤ m
+          go (yes l) = absurd (k l)
+          go (no l) = omega arith
+
+      not-other : (u v : List ℕ) → ¬ (¬ (u ≡ v)) → u ≡ v
+      not-other u v k = let e = sameBy-iff eqb eqb-iff u v in go (sameBy eqb u v) e
+        where
+          go : (b : Bool) → T b ↔ (u ≡ v) → u ≡ v
+          go true f = f .0 tt
+          go false f = absurd (k (f .1))
+
+-- ---- within the limits the verdict is right, of the automata in the files
+module _ (first second : List ℕ) (words buffer : ℕ) (p : Premises first second words buffer) where
+  abbrev x : Automaton
+  x = automatonOf first
+
+  abbrev y : Automaton
+  y = automatonOf second
+
+  well-formed : (file : List ℕ) → faultOf file ≡ 0 → WellFormed (automatonOf file)
+  well-formed file z = go (readingOf file) refl
+    where
+      go : (r : Reading) → readingOf file ≡ r → WellFormed (automatonOf file)
+      go (Valid c) e = valid-automaton file c e .0
+      go (Fault n) e = absurd (omega (arith, number-range file n e .0, ap numberOf e))
+
+  fits : (z : Automaton) (L : ℕ) → ¬ MoreThan (Reachable z) L → length (configurations z L) ≤ L
+  fits z L h = go (decLt L (length (configurations z L)))
+    where
+      go : Dec (L < length (configurations z L)) → length (configurations z L) ≤ L
+      go (yes l) = absurd (h (reaching-more z L .0 l))
+      go (no l) = omega arith
+
+  few : (L P : ℕ) → ¬ MoreThan (SomePair x y L) P → length (pairs x y L P) ≤ P
+  few L P h = go (decLt P (length (pairs x y L P)))
+    where
+      go : Dec (P < length (pairs x y L P)) → length (pairs x y L P) ≤ P
+      go (yes l) = absurd (h (comparing-more x y L P .0 l))
+      go (no l) = omega arith
+
+  right : Right x y 256 (verdict x y 256 512)
+  right = comparing x y 256 512 (well-formed first (p .valid₁)) (well-formed second (p .valid₂)) (ap length (sym (p .same-letters)))
+      (fits x 256 (p .configurations₁)) (fits y 256 (p .configurations₂)) (few 256 512 (p .few-pairs))
+
+-- one word that exactly one accepts, and the two aren't one rule
+not-one-rule : (x y : Automaton) (taker : ℕ) (word : List ℕ) → Shown x y taker word → ¬ OneRule x y
+not-one-rule x y taker word s one = ⊎-elim (λ h. h .2 (one word .0 (h .1))) (λ h. h .1 (one word .1 (h .2))) (s .by)
+
+-- ---- the whole answer
+module _ (first second : List ℕ) (words : ℕ) (old new : List ℕ) where
+  abbrev x₁ : Automaton
+  x₁ = automatonOf first
+
+  abbrev x₂ : Automaton
+  x₂ = automatonOf second
+
+  abbrev takerOf : Automaton → List ℕ → ℕ
+  takerOf x word = cond (acceptedBytes x 256 word) 1 2
+
+  abbrev Refuses : Comparison → Type 0
+  Refuses r = (n b : ℕ) → 0 < n → ((told r .number ≡ n) × (told r .automaton ≡ b)) ↔ FirstHolds (conditions first second words (length old)) n b
+
+  refused : (n b : ℕ) → 0 < n → ¬ Premises first second words (length old) → Refuses (Refused n b) → new ≡ old → Promised first second words old new (told (Refused n b))
+  refused n b pos none due e = record {
+    answers = (λ z. absurd (omega arith), λ p. absurd (none p));
+    same = (λ t. absurd t, λ p. none (p .0));
+    different = (λ t. absurd t, λ p. none (p .0));
+    shows = λ t. absurd t;
+    counts = λ p. absurd (none p);
+    refuses = due;
+    behind = e;
+    none-shown = λ _. refl;
+    whole = omega arith;
+  }
+
+  -- the answer of a right verdict
+  answered : (v : Verdict) → Right x₁ x₂ 256 v → Premises first second words (length old) → (taker : ℕ) (word : List ℕ) → Refuses (answerAt v taker (length word))
+      → new ≡ bufferOf (answerAt v taker (length word)) word old → ShownBy x₁ x₂ word (answerAt v taker (length word)) → Promised first second words old new (told (answerAt v taker (length word)))
+  answered (same n) r p taker word due e s = record {
+    answers = (λ _. p, λ _. refl);
+    same = (λ _. (p, one), λ _. tt);
+    different = (λ t. absurd t, λ q. q .1 one);
+    shows = λ t. absurd t;
+    counts = λ _. r .0;
+    refuses = due;
+    behind = e;
+    none-shown = λ _. refl;
+    whole = omega arith;
+  }
+    where
+      one : OneRule x₁ x₂
+      one = same-language x₁ x₂ (sym (p .same-letters)) (r .1)
+  answered (different n k v) r p taker word due e s = record {
+    answers = (λ _. p, λ _. refl);
+    same = (λ t. absurd t, λ q. not-one-rule x₁ x₂ taker word s (q .1));
+    different = (λ _. (p, not-one-rule x₁ x₂ taker word s), λ _. tt);
+    shows = λ _. subst (λ (l : List ℕ). Shown x₁ x₂ taker l) (sym (ap (take (length word)) e ∙ take-at word (drop (length word) old) (length word) refl)) s;
+    counts = λ _. r .0;
+    refuses = due;
+    behind = ap (drop (length word)) e ∙ drop-at word (drop (length word) old) (length word) refl;
+    none-shown = λ h. absurd (h tt);
+    whole = omega (arith, ap length e, length-append word (drop (length word) old));
+  }
+
+  opened : (word : List ℕ) → comparisonOf first second words (length old) word
+      ≡ unlessRefused (tests 256 2048 512 first second words (length old)) (answerAt (verdict x₁ x₂ 256 512) (takerOf x₁ word) (length word))
+  unfolding comparisonOf comparedAt
+  opened word = refl
+
+  -- THE PROMISE of comparing.
+  pub comparing-promised : (r : Comparison) → Compares first second words old new r → Promised first second words old new (told r)
+  comparing-promised r c = either (refused-or-not all cs (tests-decide first second words (length old)) answer)
+    where
+      all : List (Bool × ℕ × ℕ)
+      all = tests 256 2048 512 first second words (length old)
+
+      cs : List (Type 0 × ℕ × ℕ)
+      cs = conditions first second words (length old)
+
+      taker : ℕ
+      taker = takerOf x₁ (c .word)
+
+      answer : Comparison
+      answer = answerAt (verdict x₁ x₂ 256 512) taker (length (c .word))
+
+      whole-answer : r ≡ unlessRefused all answer
+      whole-answer = c .answer ∙ opened (c .word)
+
+      number-none : (v : Verdict) → told (answerAt v taker (length (c .word))) .number ≡ 0
+      number-none (same n) = refl
+      number-none (different n k v) = refl
+
+      due : (a : Comparison) → r ≡ a → Refuses a
+      due a e = subst Refuses (sym whole-answer ∙ e) (refuses-first all cs (tests-decide first second words (length old)) answer (number-none (verdict x₁ x₂ 256 512)))
+
+      either : (NoneHolds cs × (unlessRefused all answer ≡ answer)) ⊎ ((¬ NoneHolds cs) × ((n : ℕ) × (b : ℕ) × (unlessRefused all answer ≡ Refused n b) × (0 < n)))
+          → Promised first second words old new (told r)
+      either (inl h) =
+          let e = whole-answer ∙ h .1 in
+          let p = premises-of first second words (length old) (h .0) in
+          subst (λ (a : Comparison). Promised first second words old new (told a)) (sym e)
+          (answered (verdict x₁ x₂ 256 512) (right first second words (length old) p) p taker (c .word) (due answer e)
+          (subst (λ (a : Comparison). new ≡ bufferOf a (c .word) old) e (c .buffer)) (subst (ShownBy x₁ x₂ (c .word)) e (c .shown)))
+      either (inr h) =
+          let e = whole-answer ∙ h .1 .2 in
+          subst (λ (a : Comparison). Promised first second words old new (told a)) (sym e)
+          (refused (h .1 .0) (h .1 .1) (h .1 .3) (λ p. h .0 (none-of first second words (length old) p)) (due (Refused (h .1 .0) (h .1 .1)) e)
+          (subst (λ (a : Comparison). new ≡ bufferOf a (c .word) old) e (c .buffer)))
