@@ -9,10 +9,9 @@ use native.Mathlib.Omega.{arith}
 use lib.Dec.{T, eqb}
 use lib.ListN.{drop, length, length-append, take}
 use lib.Seq.{drop-at, take-at}
-use Rattle.automata.specs.Automaton.{Automaton, Reachable, WellFormed}
-use Rattle.automata.specs.Counting.{MoreThan}
+use Rattle.automata.specs.Automaton.{Automaton, WellFormed}
 use Rattle.automata.specs.Lists.{sameBy}
-use Rattle.automata.specs.Pairs.{Right, SomePair, Verdict, different, pairs, same, verdict}
+use Rattle.automata.specs.Pairs.{Right, Verdict, different, pairs, same, verdict}
 use Rattle.automata.specs.Unfolding.{acceptedBytes, configurations, plainArcs}
 use Rattle.automata.proofs.Laws.{comparing, comparing-more, reaching-more}
 use Rattle.automata.proofs.LanguageLaws.{same-language}
@@ -28,6 +27,20 @@ use Rattle.compare.specs.Promised.{FirstHolds, OneRule, Premises, Promis
 use Rattle.compare.specs.declared.Comparison.{Comparison}
 use Rattle.compare.specs.declared.Comparison.the-variants.{Refused}
 use Rattle.compare.proofs.Refusals.{NoneHolds, refused-or-not, refuses-first, tests-decide}
+
+at-least : (m n : ℕ) → ¬ (m < n) → n ≤ m
+at-least m n h = go (decLt m n)
+  where
+    go : Dec (m < n) → n ≤ m
+    go (yes l) = absurd (h l)
+    go (no l) = omega arith
+
+not-other : (u v : List ℕ) → ¬ (¬ (u ≡ v)) → u ≡ v
+not-other u v h = go (sameBy eqb u v) (sameBy-iff eqb eqb-iff u v)
+  where
+    go : (b : Bool) → T b ↔ (u ≡ v) → u ≡ v
+    go true f = f .0 tt
+    go false f = absurd (h (f .1))
 
 -- ---- the premises of demand 3 are that no condition of a refusal holds
 module _ (first second : List ℕ) (words buffer : ℕ) where
@@ -63,20 +76,6 @@ module _ (first second : List ℕ) (words buffer : ℕ) where
         arcs₂ = at-least 2048 (length (plainArcs (automatonOf second) 256)) (l .1 .1 .1 .1 .0);
         few-pairs = l .1 .1 .1 .1 .1 .0;
       }
-    where
-      at-least : (m n : ℕ) → ¬ (m < n) → n ≤ m
-      at-least m n k = go (decLt m n)
-        where
-          go : Dec (m < n) → n ≤ m
-          go (yes l) = absurd (k l)
-          go (no l) = omega arith
-
-      not-other : (u v : List ℕ) → ¬ (¬ (u ≡ v)) → u ≡ v
-      not-other u v k = let e = sameBy-iff eqb eqb-iff u v in go (sameBy eqb u v) e
-        where
-          go : (b : Bool) → T b ↔ (u ≡ v) → u ≡ v
-          go true f = f .0 tt
-          go false f = absurd (k (f .1))
 
 -- ---- within the limits the verdict is right, of the automata in the files
 module _ (first second : List ℕ) (words buffer : ℕ) (p : Premises first second words buffer) where
@@ -93,23 +92,11 @@ module _ (first second : List ℕ) (words buffer : ℕ) (p : Premises first seco
       go (Valid c) e = valid-automaton file c e .0
       go (Fault n) e = absurd (omega (arith, number-range file n e .0, ap numberOf e))
 
-  fits : (z : Automaton) (L : ℕ) → ¬ MoreThan (Reachable z) L → length (configurations z L) ≤ L
-  fits z L h = go (decLt L (length (configurations z L)))
-    where
-      go : Dec (L < length (configurations z L)) → length (configurations z L) ≤ L
-      go (yes l) = absurd (h (reaching-more z L .0 l))
-      go (no l) = omega arith
-
-  few : (L P : ℕ) → ¬ MoreThan (SomePair x y L) P → length (pairs x y L P) ≤ P
-  few L P h = go (decLt P (length (pairs x y L P)))
-    where
-      go : Dec (P < length (pairs x y L P)) → length (pairs x y L P) ≤ P
-      go (yes l) = absurd (h (comparing-more x y L P .0 l))
-      go (no l) = omega arith
-
   right : Right x y 256 (verdict x y 256 512)
   right = comparing x y 256 512 (well-formed first (p .valid₁)) (well-formed second (p .valid₂)) (ap length (sym (p .same-letters)))
-      (fits x 256 (p .configurations₁)) (fits y 256 (p .configurations₂)) (few 256 512 (p .few-pairs))
+      (at-least 256 (length (configurations x 256)) (λ h. p .configurations₁ (reaching-more x 256 .0 h)))
+      (at-least 256 (length (configurations y 256)) (λ h. p .configurations₂ (reaching-more y 256 .0 h)))
+      (at-least 512 (length (pairs x y 256 512)) (λ h. p .few-pairs (comparing-more x y 256 512 .0 h)))
 
 -- one word that exactly one accepts, and the two aren't one rule
 not-one-rule : (x y : Automaton) (taker : ℕ) (word : List ℕ) → Shown x y taker word → ¬ OneRule x y
