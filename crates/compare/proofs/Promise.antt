@@ -150,7 +150,7 @@ module _ (first second : List ℕ) (words : ℕ) (old new : List ℕ) where
     answers = (λ _. p, λ _. refl);
     same = (λ t. absurd t, λ q. not-one-rule x₁ x₂ taker word s (q .1));
     different = (λ _. (p, not-one-rule x₁ x₂ taker word s), λ _. tt);
-    shows = λ _. subst (λ (l : List ℕ). Shown x₁ x₂ taker l) (sym (ap (take (length word)) e ∙ take-at word (drop (length word) old) (length word) refl)) s;
+    shows = λ _. subst (λ (l : List ℕ). Shown x₁ x₂ taker l) (sym (ap (take (length word)) e ∙ take-at word _ (length word) refl)) s;
     counts = λ _. r .0;
     refuses = due;
     behind = ap (drop (length word)) e ∙ drop-at word (drop (length word) old) (length word) refl;
