@@ -4,6 +4,7 @@
 ghost use mathlib.Core.Path.{_≡_};
 ghost use Prim.Native.Nat.{_<_};
 ghost use mathlib.Core.List.{[], _∷_};
+ghost use lib.ListN.{take};
 ghost use Rattle.text.specs.Writing.{Writes};
 ghost use Rattle.text.specs.Digits.{decimalOf, digitOf, hexDigits, hexOf};
 
@@ -96,4 +97,14 @@ pub fn hex_field(s: &[u8], out: &mut [u8], at: usize) -> usize
 {
     let end = put_byte(b' ', out, at);
     hex(s, out, end)
+}
+
+// The same of the first n bytes of `s`, and of all where there are fewer. Cost: one pass over them.
+pub fn front_field(s: &[u8], n: usize, out: &mut [u8], at: usize) -> usize
+    ensures { λ r. ⌜ Writes (32 ∷ hexOf (take n (now (s .entry)))) at r (now (out .entry)) (now (out .exit)) ⌝ }
+{
+    if s.len() < n {
+        return hex_field(s, out, at);
+    }
+    hex_field(&s[0..n], out, at)
 }
