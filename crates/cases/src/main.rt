@@ -65,6 +65,14 @@ fn answer(
             let n = lines::membership_line(table::accepts(first, second, work), line);
             io::write_all(1, &line[0..n])
         }
+        3 => {
+            let n = lines::written_line(join::union(first, second, out), out, line);
+            io::write_all(1, &line[0..n])
+        }
+        6 => {
+            let n = lines::written_line(join::close(first, out), out, line);
+            io::write_all(1, &line[0..n])
+        }
         _ => {
             io::write_all(1, b"unknown\n");
             false

@@ -2,13 +2,16 @@
 -- Each is a word for the kind of answer, then document 01's values of it, with one space between.
 use Prim.Native.Nat.{ℕ}
 use mathlib.Core.List.{List, [], _∷_}
-use Rattle.text.specs.Digits.{decimalOf}
+use lib.ListN.{take}
+use Rattle.text.specs.Digits.{decimalOf, hexOf}
 use Rattle.text.specs.Line.{ascii, line}
 use Rattle.format.specs.declared.Counts.{Counts}
 use Rattle.format.specs.declared.Reading.{Reading}
 use Rattle.format.specs.declared.Reading.the-variants.{Valid, Refused as Fault}
 use Rattle.table.specs.declared.Membership.{Membership}
 use Rattle.table.specs.declared.Membership.the-variants.{Accepted, Rejected, Refused}
+use Rattle.writing.specs.declared.Written.{Written}
+use Rattle.writing.specs.declared.Written.the-variants.{Bytes, Refused as Unwritten}
 
 -- a refusal: its number, and the automaton at fault
 abbrev pub refusedLine : ℕ → ℕ → List ℕ
@@ -34,3 +37,12 @@ abbrev pub membershipLine : Membership → List ℕ
 membershipLine (Accepted n) = countLine (ascii "taken") n
 membershipLine (Rejected n) = countLine (ascii "not") n
 membershipLine (Refused n b) = refusedLine n b
+
+-- a file that was written: the n bytes at the front of the output, or all where there are fewer
+abbrev pub wroteLine : List ℕ → ℕ → List ℕ
+wroteLine file n = line (ascii "wrote" ∷ hexOf (take n file) ∷ [])
+
+-- what a call that writes a file answers; `file` is the output afterwards
+abbrev pub writtenLine : Written → List ℕ → List ℕ
+writtenLine (Bytes n) file = wroteLine file n
+writtenLine (Unwritten n b) file = refusedLine n b

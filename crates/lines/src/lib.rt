@@ -3,8 +3,9 @@
 use format::Counts;
 use format::Reading;
 use table::Membership;
+use writing::Written;
 ghost use Rattle.text.specs.Writing.{Writes};
-ghost use Rattle.lines.specs.Lines.{refusedLine, validLine, readingLine, countLine, membershipLine};
+ghost use Rattle.lines.specs.Lines.{refusedLine, validLine, readingLine, countLine, membershipLine, wroteLine, writtenLine};
 
 // A refusal: its number, and the automaton at fault.
 pub fn refused_line(number: u8, automaton: u8, out: &mut [u8]) -> usize
@@ -56,5 +57,24 @@ pub fn membership_line(r: Membership, out: &mut [u8]) -> usize
         Membership::Accepted(n) => count_line(b"taken", n, out),
         Membership::Rejected(n) => count_line(b"not", n, out),
         Membership::Refused(n, b) => refused_line(n, b, out),
+    }
+}
+
+// A file that was written: the n bytes at the front of the output, or all where there are fewer.
+fn wrote_line(file: &[u8], n: usize, out: &mut [u8]) -> usize
+    ensures { λ r. ⌜ Writes (wroteLine (now (file .entry)) n) 0 r (now (out .entry)) (now (out .exit)) ⌝ }
+{
+    let mut at = text::put(b"wrote", out, 0);
+    at = text::front_field(file, n, out, at);
+    text::put_byte(b'\n', out, at)
+}
+
+// What a call that writes a file answers; `file` is the output that it was lent.
+pub fn written_line(r: Written, file: &[u8], out: &mut [u8]) -> usize
+    ensures { λ n. ⌜ Writes (writtenLine r (now (file .entry))) 0 n (now (out .entry)) (now (out .exit)) ⌝ }
+{
+    match r {
+        Written::Bytes(n) => wrote_line(file, n, out),
+        Written::Refused(n, b) => refused_line(n, b, out),
     }
 }

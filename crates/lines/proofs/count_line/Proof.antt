@@ -3,29 +3,19 @@ use Rattle.text.proofs.WritingLaws.{then}
 use borrow.Author.Needs.{needs}
 use Rattle.lines.proofs.count_line.Statement.{statement}
 use Rattle.lines.proofs.count_line.Tie as tie
-use Rattle.lines.proofs.count_line.Reads as reads
-use Rattle.lines.proofs.count_line.Lts as lts
-use Rattle.text.proofs.decimal_field.Reads as decimal-field-reads
-use Rattle.text.proofs.put.Reads as put-reads
-use Rattle.text.proofs.put_byte.Reads as put-byte-reads
 
--- src/lib.rt:46:9
 put-requires : tie.Need-put-requires
 put-requires c κs = search needs
 
--- src/lib.rt:47:5
 decimal-field-requires : tie.Need-decimal-field-requires
 decimal-field-requires c κs = search needs
 
--- src/lib.rt:48:5
 put-byte-requires : tie.Need-put-byte-requires
 put-byte-requires c κs = search needs
 
--- src/lib.rt:43:1
 same-length : tie.Need-same-length
 same-length c = search needs
 
--- src/lib.rt:43:1
 returns : tie.Need-returns
 returns c =
     let newline = c .before .before in
