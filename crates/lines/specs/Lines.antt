@@ -13,9 +13,12 @@ use Rattle.table.specs.declared.Membership.the-variants.{Accepted, Rejected, Re
 use Rattle.writing.specs.declared.Written.{Written}
 use Rattle.writing.specs.declared.Written.the-variants.{Bytes, Refused as Unwritten}
 
--- a refusal: its number, and the automaton at fault
+-- a refusal: a word for it, its number, and the automaton at fault
+abbrev pub refusalLine : List ℕ → ℕ → ℕ → List ℕ
+refusalLine answer number automaton = line (answer ∷ decimalOf number ∷ decimalOf automaton ∷ [])
+
 abbrev pub refusedLine : ℕ → ℕ → List ℕ
-refusedLine number automaton = line (ascii "refused" ∷ decimalOf number ∷ decimalOf automaton ∷ [])
+refusedLine number automaton = refusalLine (ascii "refused") number automaton
 
 -- a valid file: the counts of its header, in the order of the file
 abbrev pub validLine : Counts → List ℕ

@@ -5,16 +5,23 @@ use format::Reading;
 use table::Membership;
 use writing::Written;
 ghost use Rattle.text.specs.Writing.{Writes};
-ghost use Rattle.lines.specs.Lines.{refusedLine, validLine, readingLine, countLine, membershipLine, wroteLine, writtenLine};
+ghost use Rattle.lines.specs.Lines.{refusalLine, refusedLine, validLine, readingLine, countLine, membershipLine, wroteLine, writtenLine};
 
-// A refusal: its number, and the automaton at fault.
-pub fn refused_line(number: u8, automaton: u8, out: &mut [u8]) -> usize
-    ensures { λ r. ⌜ Writes (refusedLine number automaton) 0 r (now (out .entry)) (now (out .exit)) ⌝ }
+// A refusal: a word for it, its number, and the automaton at fault.
+pub fn refusal_line(answer: &[u8], number: u8, automaton: u8, out: &mut [u8]) -> usize
+    ensures { λ r. ⌜ Writes (refusalLine (now (answer .entry)) number automaton) 0 r (now (out .entry)) (now (out .exit)) ⌝ }
 {
-    let mut at = text::put(b"refused", out, 0);
+    let mut at = text::put(answer, out, 0);
     at = text::decimal_field(number as u64, out, at);
     at = text::decimal_field(automaton as u64, out, at);
     text::put_byte(b'\n', out, at)
+}
+
+// A refusal, as the program `cases` tells it.
+pub fn refused_line(number: u8, automaton: u8, out: &mut [u8]) -> usize
+    ensures { λ r. ⌜ Writes (refusedLine number automaton) 0 r (now (out .entry)) (now (out .exit)) ⌝ }
+{
+    refusal_line(b"refused", number, automaton, out)
 }
 
 // A valid file: the counts of its header.
@@ -41,7 +48,7 @@ pub fn reading_line(r: Reading, out: &mut [u8]) -> usize
 }
 
 // A word for the answer, and a number.
-fn count_line(answer: &[u8], n: u64, out: &mut [u8]) -> usize
+pub fn count_line(answer: &[u8], n: u64, out: &mut [u8]) -> usize
     ensures { λ r. ⌜ Writes (countLine (now (answer .entry)) n) 0 r (now (out .entry)) (now (out .exit)) ⌝ }
 {
     let mut at = text::put(answer, out, 0);

@@ -1,11 +1,8 @@
--- `lines::refused_line` meets its contract: each field is written behind the one before, the newline behind the last.
+-- `lines::refusal_line` meets its contract: each field is written behind the one before, the newline behind the last.
 use Rattle.text.proofs.WritingLaws.{then}
 use borrow.Author.Needs.{needs}
-use Rattle.lines.proofs.refused_line.Statement.{statement}
-use Rattle.lines.proofs.refused_line.Tie as tie
-
-slice-aggregate-put : tie.Need-slice-aggregate-put
-slice-aggregate-put c = search needs
+use Rattle.lines.proofs.refusal_line.Statement.{statement}
+use Rattle.lines.proofs.refusal_line.Tie as tie
 
 put-requires : tie.Need-put-requires
 put-requires c κs = search needs
@@ -30,11 +27,10 @@ returns c =
     let word = number .before .before .before .before in
     then (word .put .ensures) (then (number .decimal-field .ensures) (then (automaton .decimal-field2 .ensures) (newline .put-byte .ensures)))
 
-pub refused-line-spec : {M : Type 1} → statement M
-refused-line-spec =
+pub refusal-line-spec : {M : Type 1} → statement M
+refusal-line-spec =
     tie.close
     (tie.spec
-    slice-aggregate-put
     put-requires
     decimal-field-requires
     decimal-field-requires-2
