@@ -69,6 +69,15 @@ fn write_ops(out: &mut [u8], ops: &[u8], p: usize, k: usize)
     }
 }
 
+// At the front of the output the read of register 0.
+fn write_read(out: &mut [u8])
+    requires { ⌜ 2 ≤ length (now out) ⌝ }
+    ensures { λ _. ⌜ now (out .exit) ≡ placed 0 (opsBytes readZero) (now (out .entry)) ⌝ }
+{
+    out[0] = 0;
+    out[1] = 0;
+}
+
 // At the front of the output p operations, which write 0 to the registers 1 to p.
 fn write_clearing(out: &mut [u8], p: usize)
     requires { ⌜ (p ≤ 8) × (2 * p ≤ length (now out)) ⌝ }
@@ -118,10 +127,9 @@ pub fn write_plain_arc(out: &mut [u8], at: usize, f: Fields) -> usize
     requires { ⌜ AreBytes f × (at + 6 ≤ length (now out)) ⌝ }
     ensures { λ r. ⌜ Appended at (arcBytes (arcWith f readZero)) (now (out .entry)) (now (out .exit)) r ⌝ }
 {
-    let behind = write_fields(out, at, f, 1);
-    out[behind] = 0;
-    out[behind + 1] = 0;
-    behind + 2
+    write_fields(out, at, f, 1);
+    write_read(&mut out[at + 4..]);
+    at + 6
 }
 
 // An arc whose operations write 0 to the registers 1 to n - 1; with one register, the read of register 0. Refuses nothing. Cost: n.

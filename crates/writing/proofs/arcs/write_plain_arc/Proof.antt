@@ -1,61 +1,42 @@
-use mathlib.Core.Path.{refl}
-use mathlib.Core.List.{[], _∷_}
-use Prim.Native.Nat.{_+_, _≤_}
-use native.Mathlib.Numerals.{add-one}
+use mathlib.Core.Path.{_≡_, refl}
+use Prim.Native.Nat.{_+_}
 use native.Mathlib.Omega.{arith}
-use lib.ListN.{length, length-set}
+use lib.ListN.{length, length-drop, length-take}
 use Rattle.automata.specs.Unfolding.{readZero}
 use Rattle.format.specs.Encoding.{opsBytes}
-use Rattle.writing.proofs.Placed.{appended-length, written-then, stored}
+use Rattle.writing.proofs.Placed.{appended-length, then-tail}
 use Rattle.writing.proofs.ArcBytes.{arc-written}
 use borrow.Author.Needs.{needs}
 use Rattle.writing.proofs.arcs.write_plain_arc.Statement.{statement}
 use Rattle.writing.proofs.arcs.write_plain_arc.Tie as tie
-use Rattle.writing.proofs.arcs.write_plain_arc.Reads as reads
-use Rattle.writing.proofs.arcs.write_plain_arc.Lts as lts
-use Rattle.writing.proofs.arcs.write_fields.Reads as write-fields-reads
 
--- src/arcs.rt:121:9
-write-fields-requires : tie.Need-write-fields-requires
-write-fields-requires c κs = search needs
+write-read-requires : tie.Need-write-read-requires
+write-read-requires c κs =
+    let w = c .before .before .before .write-fields .ensures in
+    simp (length-take, length-drop) (omega (arith, appended-length w))
 
--- src/arcs.rt:122:5
-slice-write-out : tie.Need-slice-write-out
-slice-write-out c = search needs
-
--- src/arcs.rt:123:9
-add-out : tie.Need-add-out
-add-out c = search needs
-
--- src/arcs.rt:123:5
-slice-write-out-2 : tie.Need-slice-write-out-2
-slice-write-out-2 c = simp length-set (omega (arith, c .before .before .write-fields .ensures .behind, appended-length (c .before .before .write-fields .ensures)))
-
--- src/arcs.rt:124:5
-add-result : tie.Need-add-result
-add-result c = search needs
-
--- src/arcs.rt:117:1
-same-length : tie.Need-same-length
-same-length c = search needs
-
--- src/arcs.rt:117:1
 returns : tie.Need-returns
 unfolding opsBytes
 returns c =
-    let fields = c .before .before .write-fields in
-    let a = c .before .before .before .before .before in
-    let room : fields .result + 2 ≤ length (fields .last .0) = omega (arith, fields .ensures .behind, appended-length (fields .ensures), a .pre .1) in
-    arc-written (a .args .f) readZero refl refl (written-then (fields .ensures) (rw add-one (stored (0 ∷ 0 ∷ []) (fields .last .0) (fields .result) room)))
+    let ops = c .before .before in
+    let fields = ops .before .before .before .before in
+    let s = fields .before .before .before in
+    let a = s .args in
+    let e : a .at + 6 ≡ a .at + 4 + 2 = omega arith in
+    let four = fields .write-fields .ensures in
+    let both = then-tail (opsBytes readZero) (ops .write-read .last .0) (a .at + 4) four (omega (arith, s .pre .1)) (four .behind) (ops .write-read .ensures) in
+    rw e (arc-written (a .f) readZero refl refl both)
 
 pub write-plain-arc-spec : {M : Type 1} → statement M
 write-plain-arc-spec =
     tie.close
     (tie.spec
-    write-fields-requires
-    slice-write-out
-    add-out
-    slice-write-out-2
-    add-result
-    same-length
+    (λ c κs. search needs)
+    (λ c. search needs)
+    (λ c. search needs)
+    (λ c. search needs)
+    (λ c. search needs)
+    write-read-requires
+    (λ c. search needs)
+    (λ c. search needs)
     returns)
