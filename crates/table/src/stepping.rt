@@ -68,7 +68,7 @@ fn visit(w: &mut [u64], base: usize, acc: usize, from: usize, to: usize, met: u6
 
 // Where the arcs of configuration c end: where those of the next one start, or behind the last.
 // Cost: constant.
-fn end_of(w: &[u64], base: usize, count: usize, plain: usize, c: usize) -> usize
+pub fn end_of(w: &[u64], base: usize, count: usize, plain: usize, c: usize) -> usize
     requires { ⌜ (c < count) × ((count ≤ 256) × (blockEnd base ≤ length (now w))) ⌝ }
     ensures { λ r. ⌜ r ≡ endAt (now (w .entry)) base count plain c ⌝ }
 {

@@ -2,7 +2,7 @@
 use mathlib.Core.Path.{_≡_, refl, sym, ap, _∙_}
 use mathlib.Core.Logic.{_≢_}
 use mathlib.Core.Bool.{Bool, true, false, cond}
-use mathlib.Core.List.{List, [], _∷_, _++_, append-assoc, map}
+use mathlib.Core.List.{List, [], _∷_, _++_, map}
 use Prim.Native.Nat.{ℕ, zero, suc, _+_, _-_, _*_, _/_, _%_, _<_, _≤_}
 use native.Mathlib.Nat.{add-zero}
 use native.Mathlib.Omega.{arith}
@@ -133,9 +133,3 @@ arc-written f os e b a = rw (arc-parts f os, e, b) a
 pub arc-length : (x : Arc) → length (arcBytes x) ≡ 4 + 2 * length (x .ops)
 unfolding arcBytes
 arc-length x = omega (arith, ops-length (x .ops))
-
--- ---- arcs
-pub arcs-append : (l r : List Arc) → arcsBytes (l ++ r) ≡ arcsBytes l ++ arcsBytes r
-unfolding arcsBytes
-arcs-append [] r = refl
-arcs-append (x ∷ l) r = rw (arcs-append l r) (sym (append-assoc (arcBytes x) (arcsBytes l) (arcsBytes r)))
