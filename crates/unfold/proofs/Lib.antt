@@ -6,3 +6,6 @@ pub mod FlagBytes
 pub mod UnfoldedBytes
 pub mod Explored
 pub mod Answering
+pub mod PlainMoves
+pub mod Again
+pub mod Promise

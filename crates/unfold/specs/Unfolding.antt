@@ -38,3 +38,14 @@ unlessFault (Valid c) answer = answer
 unfoldable pub unfoldingOf : (file : List ℕ) (words space : ℕ) → Written
 unfolding unfoldedOf
 unfoldingOf file words space = cond (ltb words 8192) (Refused 24 0) (unlessFault (readingOf file) (unfoldedOf 256 2048 (automatonOf file) space))
+
+-- an answer as document 01 tells it: the number of the refusal and the automaton at fault, each 0 where there is none; the length of
+-- the file written
+pub record Told : Type 0 where
+  pub number : ℕ
+  pub automaton : ℕ
+  pub length : ℕ
+
+abbrev pub told : Written → Told
+told (Bytes n) = record { number = 0; automaton = 0; length = n }
+told (Refused n b) = record { number = n; automaton = b; length = 0 }
