@@ -2,11 +2,10 @@
 -- the same order.
 use mathlib.Core.Path.{_∙_, _≡_, ap, ap₂, refl, sym}
 use mathlib.Core.Bool.{Bool, false}
-use mathlib.Core.List.{List, List·Memᴰ, Memᴰ·of-map, [], _++_, _∷_, map}
+use mathlib.Core.List.{List, List·Memᴰ, [], _++_, _∷_, map}
 use mathlib.Core.Option.{Option·map, Option·some-injective, some}
 use Prim.Native.Nat.{_≤_, suc, ℕ}
 use native.Mathlib.Omega.{arith}
-use lib.Dec.{T}
 use lib.ListN.{getD, getElem?, length, length-map}
 use Rattle.automata.specs.Automaton.{Automaton, Configuration, start}
 use Rattle.automata.specs.Exploration.{known, number}

@@ -1,12 +1,12 @@
 -- PlainFits: the plain arcs of an automaton lead between its configurations and have letters of it, so that the unfolded automaton is
 -- within the limits of a file, where the configurations and the plain arcs are few enough.
-use mathlib.Core.Path.{_∙_, _≡_, ap, refl, subst}
+use mathlib.Core.Path.{_∙_, _≡_, refl, subst}
 use mathlib.Core.List.{List, List·Memᴰ, List·Memᴰ·head, List·Memᴰ·tail, Memᴰ·of-map, [], _∷_, map}
 use mathlib.Core.Option.{some}
 use Prim.Native.Nat.{_+_, _<_, _≤_, suc, ℕ}
 use native.Mathlib.Omega.{arith}
 use lib.ListN.{length, length-map}
-use Rattle.automata.specs.Automaton.{Arc, Automaton, Configuration, KeepsZero, WellFormed, letters}
+use Rattle.automata.specs.Automaton.{Automaton, Configuration, KeepsZero, WellFormed, letters}
 use Rattle.automata.specs.Lists.{Each}
 use Rattle.automata.specs.Live.{PlainArc, in?}
 use Rattle.automata.specs.Performing.{Move, successors}

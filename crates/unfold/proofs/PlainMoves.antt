@@ -1,5 +1,5 @@
 -- PlainMoves: the arcs of the unfolded automaton that pass from a configuration are those that were met there, in order.
-use mathlib.Core.Path.{_∙_, _≡_, ap, ap₂, refl, sym}
+use mathlib.Core.Path.{_∙_, _≡_, ap, ap₂, refl}
 use mathlib.Core.Logic.{_≢_}
 use mathlib.Core.List.{List, [], _++_, _∷_, append-nil, map}
 use mathlib.Core.Option.{Option, Option·some-injective, bind, none, some}

@@ -1,21 +1,19 @@
 -- ArcBytes: the bytes of arcs and operations, as the writers' loops meet them, and their lengths.
-use mathlib.Core.Path.{_≡_, refl, sym, ap, _∙_}
+use mathlib.Core.Path.{_≡_, refl, ap, _∙_}
 use mathlib.Core.Logic.{_≢_}
-use mathlib.Core.Bool.{Bool, true, false, cond}
 use mathlib.Core.List.{List, [], _∷_, _++_, map}
 use Prim.Native.Nat.{ℕ, zero, suc, _+_, _-_, _*_, _/_, _%_, _<_, _≤_}
 use native.Mathlib.Nat.{add-zero}
 use native.Mathlib.Omega.{arith}
 use borrow.Author.Tests.{eq-eqb, ne-eqb}
-use lib.Dec.{eqb}
-use lib.ListN.{length, getD, drop, length-append, length-map}
+use lib.ListN.{length, getD, drop, length-map}
 use lib.Seq.{drop-drop, getD-drop}
 use Rattle.automata.specs.Automaton.{Op, reads, writes, Arc}
 use Rattle.automata.specs.Lists.{countFrom}
 use Rattle.automata.specs.Unfolding.{readZero}
-use Rattle.automata.specs.Joins.{arcFrom, movedRegister, movedOp, clearing}
+use Rattle.automata.specs.Joins.{movedRegister, movedOp, clearing}
 use Rattle.format.specs.Decoding.{opOf, opsOf}
-use Rattle.format.specs.Encoding.{opBytes, opsBytes, letterByte, arcBytes, arcsBytes}
+use Rattle.format.specs.Encoding.{opBytes, opsBytes, arcBytes}
 use Rattle.format.proofs.Steps.{down, none-left}
 use Rattle.format.proofs.ArcLaws.{ops-count}
 use Rattle.format.proofs.EncodingLaws.{ops-length}

@@ -6,7 +6,6 @@ use borrow.Author.Needs.{needs}
 use lib.ListN.{length}
 use Rattle.explore.specs.declared.Explored.{Explored}
 use Rattle.explore.specs.Explores.{Explores}
-use Rattle.format.specs.declared.Counts.{Counts}
 use Rattle.format.specs.declared.Reading.the-variants.{Valid}
 use Rattle.format.specs.Decoding.{automatonOf}
 use Rattle.format.specs.Reading.{numberOf, readingOf}

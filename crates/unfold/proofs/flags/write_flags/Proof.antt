@@ -1,5 +1,5 @@
 -- `unfold::flags::write_flags` meets its contract. The loop's invariant: the flags from number i on are left to be written.
-use mathlib.Core.Path.{_∙_, _≡_, ap}
+use mathlib.Core.Path.{_∙_, ap}
 use mathlib.Core.List.{[], _∷_}
 use Prim.Native.Nat.{_+_, _-_}
 use native.Mathlib.Omega.{arith}

@@ -11,19 +11,19 @@ use Rattle.unfold.proofs.result.write_front.Tie as tie
 
 write-header-requires : tie.Need-write-header-requires
 write-header-requires c κs =
-    let s = c .before .before .before in
-    let p = s .pre in (
+    let p = c .before .before .before .pre in
+    let r = valid-ranges _ _ (p .0) in (
       record {
-        letters = valid-ranges _ _ (p .0) .letters;
-        some-state = p .1;
-        states = p .2;
+        letters = omega arith;
+        some-state = omega arith;
+        states = omega arith;
         some-register = omega arith;
         registers = omega arith;
         some-symbol = omega arith;
         symbols = omega arith;
-        arcs = p .3;
+        arcs = omega arith;
       },
-      omega (arith, p .4),
+      omega arith,
     )
 
 part-write-copy-end : tie.Need-part-write-copy-end

@@ -1,7 +1,7 @@
 use mathlib.Core.Path.{_≡_, refl}
 use Prim.Native.Nat.{_+_}
 use native.Mathlib.Omega.{arith}
-use lib.ListN.{length, length-drop, length-take}
+use lib.ListN.{length-drop, length-take}
 use Rattle.automata.specs.Unfolding.{readZero}
 use Rattle.format.specs.Encoding.{opsBytes}
 use Rattle.writing.proofs.Placed.{appended-length, then-tail}
