@@ -3,7 +3,8 @@
 // length of the second bytes, number one and number two, and then the first bytes and the second bytes.
 // The run ends where the input ends, also inside a record, at a record that asks for more than the buffers hold, and at
 // an operation that has no answer yet, which the line `unknown` tells.
-ghost use Prim.Native.Nat.{_<_};
+ghost use Prim.Native.Nat.{_<_, _≤_};
+ghost use lib.ListN.{length};
 
 // A byte as a number.
 fn wide(x: u8) -> usize
@@ -47,7 +48,7 @@ fn bytes_lent(operation: u8, one: usize, two: usize) -> usize {
     }
 }
 
-// Writes the line of one operation on exactly what its record lends, and answers whether the run goes on.
+// Writes the line of one operation on exactly what its record lends, and answers its length; 0 where the operation has no answer.
 fn answer(
     operation: u8,
     first: &[u8],
@@ -55,29 +56,34 @@ fn answer(
     work: &mut [u64],
     out: &mut [u8],
     line: &mut [u8],
-) -> bool {
+) -> usize
+    ensures { λ r. ⌜ r ≤ length (now (line .exit)) ⌝ }
+{
     match operation {
-        1 => {
-            let n = lines::reading_line(format::read(first), line);
-            io::write_all(1, &line[0..n])
-        }
-        2 => {
-            let n = lines::membership_line(table::accepts(first, second, work), line);
-            io::write_all(1, &line[0..n])
-        }
-        3 => {
-            let n = lines::written_line(join::union(first, second, out), out, line);
-            io::write_all(1, &line[0..n])
-        }
-        6 => {
-            let n = lines::written_line(join::close(first, out), out, line);
-            io::write_all(1, &line[0..n])
-        }
-        _ => {
-            io::write_all(1, b"unknown\n");
-            false
-        }
+        1 => lines::reading_line(format::read(first), line),
+        2 => lines::membership_line(table::accepts(first, second, work), line),
+        3 => lines::written_line(join::union(first, second, out), out, line),
+        4 => lines::written_line(join::concatenate(first, second, out), out, line),
+        6 => lines::written_line(join::close(first, out), out, line),
+        _ => 0,
     }
+}
+
+// Prints the line of one operation, and answers whether the run goes on.
+fn print(
+    operation: u8,
+    first: &[u8],
+    second: &[u8],
+    work: &mut [u64],
+    out: &mut [u8],
+    line: &mut [u8],
+) -> bool {
+    let n = answer(operation, first, second, work, out, line);
+    if n == 0 {
+        io::write_all(1, b"unknown\n");
+        return false;
+    }
+    io::write_all(1, &line[0..n])
 }
 
 // Lends the parts of the buffers that a record names, where the buffers are as long; false ends the run.
@@ -105,7 +111,7 @@ fn lend(
     if out.len() < bytes {
         return false;
     }
-    answer(
+    print(
         operation,
         &first[0..first_length],
         &second[0..second_length],
