@@ -1,0 +1,5 @@
+pub mod Frames
+pub mod Meeting
+pub mod Letters
+pub mod Expanding
+pub mod Walking

@@ -1,0 +1,16 @@
+-- `search::unmet` meets its contract: a digit of the union of two masks is a digit of one.
+use borrow.Author.Needs.{needs}
+use mathlib.Core.Path.{_∙_, ap, sym}
+use mathlib.Core.Bool.{not}
+use lib.Bits.{bitOr}
+use Rattle.sets.proofs.Laws.{has-bit}
+use Rattle.sets.proofs.Bits.{bit-or}
+use Rattle.search.proofs.Letters.{not-not}
+use Rattle.search.proofs.unmet.Statement.{statement}
+use Rattle.search.proofs.unmet.Tie as tie
+
+returns : tie.Need-returns
+returns c = let a = c .args in sym (not-not _) ∙ ap not (has-bit (bitOr (a .met1) (a .met2)) (a .l) (c .pre) ∙ bit-or (a .met1) (a .met2) (a .l))
+
+pub unmet-spec : {M : Type 1} → statement M
+unmet-spec = tie.close (tie.spec (λ c. search needs) returns)
