@@ -1,0 +1,200 @@
+-- ArcsOf: arcs of an intersection, made of the arcs of its files as loops meet them.
+use mathlib.Core.Path.{_≡_, _∙_, ap, refl, sym}
+use mathlib.Core.Logic.{_≢_}
+use mathlib.Core.Bool.{Bool, true, false, or-false}
+use mathlib.Core.List.{List, [], _∷_, _++_, map, flatMap, append-nil}
+use mathlib.Core.Option.{Option, none, some}
+use Prim.Native.Nat.{ℕ, suc, zero, _+_, _-_, _*_, _<_, _≤_}
+use native.Mathlib.Nat.{suc-mul, zero-mul}
+use native.Mathlib.Numerals.{add-one}
+use native.Mathlib.Omega.{arith}
+use borrow.Author.Tests.{eq-eqb, ne-eqb, le-ltb}
+use lib.Dec.{ltb, eqb}
+use lib.ListN.{length, drop, getD, length-append, length-map}
+use Rattle.automata.specs.Automaton.{Arc}
+use Rattle.automata.specs.Lists.{any, keep, countFrom, sameLetter}
+use Rattle.automata.specs.Joins.{alike, arcBoth, isEmptyMove, movedOp}
+use Rattle.format.specs.declared.Counts.{Counts}
+use Rattle.format.specs.Decoding.{arcOf, arcsOf, letterOf, opsOf}
+use Rattle.format.specs.Encoding.{arcBytes, arcsBytes}
+use Rattle.format.specs.Reading.{arcSize}
+use Rattle.format.proofs.ArcLaws.{ops-count}
+use Rattle.format.proofs.Steps.{down, none-left}
+use Rattle.writing.proofs.ArcBytes.{arc-length}
+use Rattle.joining.proofs.Walking.{arc-at, arcs-next, arcs-none}
+use Rattle.intersection.specs.declared.counting.Tally.{Tally}
+use Rattle.intersection.specs.declared.beside.Beside.{Beside}
+use Rattle.intersection.specs.Pairing.{besideArc, jointWith, emptyWith, Tallied}
+
+-- ---- letters as bytes
+empty-unlike : (u : ℕ) (β : Option ℕ) → u ≡ 255 → alike (letterOf u) β ≡ false
+unfolding alike letterOf
+empty-unlike u β e = rw (eq-eqb u 255 e)
+
+same-alike : (u v : ℕ) → u ≢ 255 → u ≡ v → alike (letterOf u) (letterOf v) ≡ true
+unfolding alike letterOf sameLetter
+same-alike u v h e = rw (← e, ne-eqb u 255 h, eq-eqb u u refl)
+
+other-unlike : (u v : ℕ) → u ≢ 255 → u ≢ v → alike (letterOf u) (letterOf v) ≡ false
+unfolding alike letterOf sameLetter
+other-unlike u v h d = go (eqb v 255) refl
+  where
+    go : (t : Bool) → eqb v 255 ≡ t → alike (letterOf u) (letterOf v) ≡ false
+    go true f = rw (ne-eqb u 255 h, f)
+    go false f = rw (ne-eqb u 255 h, f, ne-eqb u v d)
+
+empty-move : (u : ℕ) → u ≡ 255 → isEmptyMove (letterOf u) ≡ true
+unfolding isEmptyMove letterOf
+empty-move u e = rw (eq-eqb u 255 e)
+
+lettered-not : (u : ℕ) → u ≢ 255 → isEmptyMove (letterOf u) ≡ false
+unfolding isEmptyMove letterOf
+lettered-not u h = rw (ne-eqb u 255 h)
+
+-- ---- an arc at a place, field by field
+module _ (s : List ℕ) (from : ℕ) where
+  abbrev arc : Arc
+  arc = arcOf (drop from s)
+
+  pub source-at : arc .source ≡ getD s from 0
+  source-at = ap (λ (x : Arc). x .source) (arc-at s from)
+
+  pub letter-at : arc .letter ≡ letterOf (getD s (from + 1) 0)
+  letter-at = ap (λ (x : Arc). x .letter) (arc-at s from)
+
+  pub target-at : arc .target ≡ getD s (from + 2) 0
+  target-at = ap (λ (x : Arc). x .target) (arc-at s from)
+
+  pub ops-at : length (arc .ops) ≡ getD s (from + 3) 0
+  ops-at = ap (λ (x : Arc). length (x .ops)) (arc-at s from) ∙ ops-count (getD s (from + 3) 0) (drop (from + 4) s)
+
+pub ops-here : (l : List ℕ) → length (arcOf l .ops) ≡ getD l 3 0
+unfolding arcOf
+ops-here l = ops-count (getD l 3 0) (drop 4 l)
+
+-- ---- arcs made of each that is left, one step and the end
+module _ (g : Arc → List Arc) (c : Counts) (s : List ℕ) (m i from : ℕ) where
+  abbrev here : List ℕ
+  here = drop from s
+
+  abbrev later : List Arc
+  later = flatMap g (arcsOf (m - (i + 1)) (drop (from + arcSize here) s))
+
+  pub flat-next : i < m → flatMap g (arcsOf (m - i) here) ≡ g (arcOf here) ++ later
+  unfolding flatMap
+  flat-next h = rw (arcs-next c s m i from h)
+
+  flat-skip : i < m → g (arcOf here) ≡ [] → flatMap g (arcsOf (m - i) here) ≡ later
+  flat-skip h e = flat-next h ∙ rw e
+
+  pub flat-none : m ≤ i → flatMap g (arcsOf (m - i) here) ≡ []
+  unfolding flatMap
+  flat-none h = rw (arcs-none c s m i from h)
+
+-- nothing of any of them
+flat-nothing : (g : Arc → List Arc) → ((x : Arc) → g x ≡ []) → (l : List Arc) → flatMap g l ≡ []
+unfolding flatMap
+flat-nothing g e [] = refl
+flat-nothing g e (x ∷ l) = rw (e x, flat-nothing g e l)
+
+keep-none : {A : Type 0} (t : Bool) (l : List A) → t ≡ false → keep t l ≡ []
+unfolding keep
+keep-none t l e = rw e
+
+keep-all : {A : Type 0} (t : Bool) (l : List A) → t ≡ true → keep t l ≡ l
+unfolding keep
+keep-all t l e = rw e
+
+-- an empty move has no joint arc
+pub joint-nothing : (n k : ℕ) (l : List Arc) (x : Arc) (u : ℕ) → x .letter ≡ letterOf u → u ≡ 255 → jointWith n k l x ≡ []
+joint-nothing n k l x u p e =
+    flat-nothing (λ (y : Arc). keep (alike (x .letter) (y .letter)) (arcBoth n k x y ∷ [])) (λ y. keep-none (alike (x .letter) (y .letter)) (arcBoth n k x y ∷ []) (rw p (empty-unlike u (y .letter) e))) l
+
+-- a lettered arc x, whose letter's byte is u, with those that are left
+module _ (n k : ℕ) (x : Arc) (u : ℕ) (letter : x .letter ≡ letterOf u) (lettered : u ≢ 255) (c : Counts) (s : List ℕ) (m i from : ℕ) where
+  abbrev joint : Arc → List Arc
+  joint y = keep (alike (x .letter) (y .letter)) (arcBoth n k x y ∷ [])
+
+  abbrev y : Arc
+  y = arcOf (drop from s)
+
+  abbrev joint-later : List Arc
+  joint-later = jointWith n k (arcsOf (m - (i + 1)) (drop (from + arcSize (drop from s)) s)) x
+
+  pub joint-next : i < m → u ≡ getD s (from + 1) 0 → jointWith n k (arcsOf (m - i) (drop from s)) x ≡ (arcBoth n k x y ∷ []) ++ joint-later
+  joint-next h e =
+      let t : alike (x .letter) (y .letter) ≡ true = rw (letter, letter-at s from) (same-alike u (getD s (from + 1) 0) lettered e) in
+      flat-next joint c s m i from h ∙ ap (λ (l : List Arc). l ++ joint-later) (keep-all (alike (x .letter) (y .letter)) (arcBoth n k x y ∷ []) t)
+
+  pub joint-skip : i < m → u ≢ getD s (from + 1) 0 → jointWith n k (arcsOf (m - i) (drop from s)) x ≡ joint-later
+  joint-skip h d =
+      let t : alike (x .letter) (y .letter) ≡ false = rw (letter, letter-at s from) (other-unlike u (getD s (from + 1) 0) lettered d) in
+      flat-skip joint c s m i from h (keep-none (alike (x .letter) (y .letter)) (arcBoth n k x y ∷ []) t)
+
+pub joint-none : (n k : ℕ) (x : Arc) (c : Counts) (s : List ℕ) (m i from : ℕ) → m ≤ i → jointWith n k (arcsOf (m - i) (drop from s)) x ≡ []
+joint-none n k x = flat-none (λ (y : Arc). keep (alike (x .letter) (y .letter)) (arcBoth n k x y ∷ []))
+
+-- empty moves that are left, each with n states
+module _ (f : Arc → ℕ → Arc) (n : ℕ) (c : Counts) (s : List ℕ) (m i from : ℕ) where
+  abbrev empties : Arc → List Arc
+  empties x = keep (isEmptyMove (x .letter)) (map (f x) (countFrom 0 n))
+
+  abbrev x : Arc
+  x = arcOf (drop from s)
+
+  abbrev empties-later : List Arc
+  empties-later = emptyWith f n (arcsOf (m - (i + 1)) (drop (from + arcSize (drop from s)) s))
+
+  pub empty-next : i < m → getD s (from + 1) 0 ≡ 255 → emptyWith f n (arcsOf (m - i) (drop from s)) ≡ map (f x) (countFrom 0 n) ++ empties-later
+  empty-next h e =
+      let t : isEmptyMove (x .letter) ≡ true = rw (letter-at s from) (empty-move (getD s (from + 1) 0) e) in
+      flat-next empties c s m i from h ∙ ap (λ (l : List Arc). l ++ empties-later) (keep-all (isEmptyMove (x .letter)) (map (f x) (countFrom 0 n)) t)
+
+  pub empty-skip : i < m → getD s (from + 1) 0 ≢ 255 → emptyWith f n (arcsOf (m - i) (drop from s)) ≡ empties-later
+  empty-skip h d =
+      let t : isEmptyMove (x .letter) ≡ false = rw (letter-at s from) (lettered-not (getD s (from + 1) 0) d) in
+      flat-skip empties c s m i from h (keep-none (isEmptyMove (x .letter)) (map (f x) (countFrom 0 n)) t)
+
+pub empty-none : (f : Arc → ℕ → Arc) (n : ℕ) (c : Counts) (s : List ℕ) (m i from : ℕ) → m ≤ i → emptyWith f n (arcsOf (m - i) (drop from s)) ≡ []
+empty-none f n = flat-none (λ (x : Arc). keep (isEmptyMove (x .letter)) (map (f x) (countFrom 0 n)))
+
+-- ---- counts of few arcs
+pub none-tallied : Tallied (record { arcs = 0; size = 0; many = false }) []
+unfolding arcsBytes any
+none-tallied = record { arcs = refl; size = refl; many = refl }
+
+pub one-tallied : (x : Arc) (p : ℕ) → length (x .ops) ≡ p → Tallied (record { arcs = 1; size = 4 + 2 * p; many = ltb 8 p }) (x ∷ [])
+unfolding arcsBytes any
+one-tallied x p e = record {
+  arcs = refl;
+  size = omega (arith, length-append (arcBytes x) [], arc-length x);
+  many = rw e (sym (or-false (ltb 8 p)));
+}
+
+pub joint-ops : (n k : ℕ) (x y : Arc) → length (arcBoth n k x y .ops) ≡ length (x .ops) + length (y .ops)
+joint-ops n k x y = length-append (x .ops) (map (movedOp k) (y .ops)) ∙ ap (λ (q : ℕ). length (x .ops) + q) (length-map (y .ops) (movedOp k))
+
+-- as many as states, each with p operations
+pub all-tallied : (g : ℕ → Arc) (p : ℕ) → ((i : ℕ) → length (g i .ops) ≡ p) → p ≤ 8 → (j n : ℕ) → Tallied (record { arcs = n; size = n * (4 + 2 * p); many = false }) (map g (countFrom j n))
+unfolding arcsBytes any countFrom
+all-tallied g p e h j zero = record { arcs = refl; size = zero-mul (4 + 2 * p); many = refl }
+all-tallied g p e h j (suc n) =
+    let rest = all-tallied g p e h (suc j) n in
+    record {
+      arcs = ap suc (rest .arcs);
+      size = omega (arith, suc-mul n (4 + 2 * p), rest .size, length-append (arcBytes (g j)) (arcsBytes (map g (countFrom (suc j) n))), arc-length (g j), e j);
+      many = rw (e j, le-ltb 8 p h) (rest .many);
+    }
+
+-- ---- an empty move beside the states that are left
+module _ (g : ℕ → Arc) (n i : ℕ) where
+  pub beside-next : i < n → arcsBytes (map g (countFrom i (n - i))) ≡ arcBytes (g i) ++ arcsBytes (map g (countFrom (i + 1) (n - (i + 1))))
+  unfolding countFrom arcsBytes
+  beside-next h = rw (down n i h, add-one i)
+
+  pub beside-none : n ≤ i → arcsBytes (map g (countFrom i (n - i))) ≡ []
+  unfolding countFrom arcsBytes
+  beside-none h = rw (none-left n i h)
+
+pub beside-length : (b : Beside) (l : List ℕ) (i : ℕ) → length (arcBytes (besideArc b (arcOf l) i)) ≡ arcSize l
+beside-length b l i = omega (arith, arc-length (besideArc b (arcOf l) i), length-map (arcOf l .ops) (movedOp (b .shift)), ops-here l)

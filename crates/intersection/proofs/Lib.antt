@@ -1,0 +1,6 @@
+pub mod Uncounted
+pub mod ArcsOf
+pub mod FlagLaws
+pub mod Numbering
+pub mod IntersectionBytes
+pub mod IntersectionFits
