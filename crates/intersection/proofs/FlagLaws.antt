@@ -31,6 +31,9 @@ unfolding bothFinal
 both-length [] F = omega (arith, zero-mul (length F))
 both-length (x ∷ S) F = length-append (map (λ (y : Bool). x && y) F) (bothFinal S F) ∙ omega (arith, length-map F (λ (y : Bool). x && y), both-length S F, suc-mul (length S) (length F))
 
+pub flags-length : (S F : List Bool) {m n : ℕ} → length S ≡ m → length F ≡ n → length (map flagByte (bothFinal S F)) ≡ m * n
+flags-length S F p q = length-map (bothFinal S F) flagByte ∙ both-length S F ∙ ap₂ (λ (m n : ℕ). m * n) p q
+
 module _ (flags : List ℕ) (F : List Bool) where
   -- the flags of the intersection from the first's state i on
   abbrev pub flagsFrom : ℕ → List ℕ

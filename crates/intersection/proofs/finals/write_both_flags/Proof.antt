@@ -1,10 +1,10 @@
-use mathlib.Core.Path.{_≡_, _∙_, ap, ap₂, sym, subst}
+use mathlib.Core.Path.{_≡_, _∙_, ap, sym, subst}
 use mathlib.Core.Logic.{⊎-elim}
 use mathlib.Core.Bool.{Bool}
 use mathlib.Core.List.{List, _++_, map}
-use Prim.Native.Nat.{ℕ, _+_, _-_, _*_, _<_, _≤_}
+use Prim.Native.Nat.{ℕ, _+_, _-_, _<_, _≤_}
 use native.Mathlib.Omega.{arith}
-use lib.ListN.{length, length-map, length-replicate, replicate}
+use lib.ListN.{length, length-replicate, replicate}
 use Rattle.automata.specs.Joins.{bothFinal}
 use Rattle.format.specs.Reading.{flagBytes}
 use Rattle.format.specs.Decoding.{automatonOf}
@@ -12,7 +12,7 @@ use Rattle.format.specs.Encoding.{flagByte}
 use Rattle.format.proofs.ValidLaws.{valid-ranges, file-seen}
 use Rattle.writing.proofs.Placed.{Left, left-all, left-fits, left-less, left-none}
 use Rattle.joining.proofs.FinalLaws.{valid-finals, valid-lengths, valid-flags}
-use Rattle.intersection.proofs.FlagLaws.{flagsFrom, flags-none, flag-at, flags-final, flags-other, both-length}
+use Rattle.intersection.proofs.FlagLaws.{flagsFrom, flags-none, flag-at, flags-final, flags-other, flags-length}
 use Rattle.intersection.proofs.finals.write_both_flags.Statement.{statement}
 use Rattle.intersection.proofs.finals.write_both_flags.Tie as tie
 use Rattle.intersection.proofs.finals.write_both_flags.Reads as reads
@@ -72,7 +72,7 @@ loop-holds c =
     let y = automatonOf (a .second .now) .finals in
     let la = valid-lengths _ _ (s .pre .0) .1 in
     let lb = valid-lengths _ _ (s .pre .1) .1 in
-    let size : length (map flagByte (bothFinal x y)) ≡ a .a .states * a .b .states = length-map (bothFinal x y) flagByte ∙ both-length x y ∙ ap₂ (λ (m n : ℕ). m * n) la lb in
+    let size = flags-length x y la lb in
     let all : Left (a .at) (map flagByte (bothFinal x y)) (a .out .now) (a .at) (map flagByte (bothFinal x y)) (a .out .now) = left-all (omega (arith, s .pre .2)) in
     (omega arith, subst (λ (l : List ℕ). Left (a .at) (map flagByte (bothFinal x y)) (a .out .now) (a .at) l (a .out .now)) (ap (λ (l : List Bool). map flagByte (bothFinal l y)) (valid-finals _ _ (s .pre .0))) all)
 

@@ -1,0 +1,21 @@
+-- ManyOps: what an arc with more than 8 operations decides, and its absence.
+use mathlib.Core.Path.{_≡_}
+use mathlib.Core.Bool.{false, or-true, true}
+use mathlib.Core.List.{List}
+use Prim.Native.Nat.{ℕ}
+use borrow.Author.Tests.{ltb-false}
+use lib.ListN.{length}
+use Rattle.automata.specs.Automaton.{Arc, Automaton}
+use Rattle.automata.specs.Lists.{Each, any}
+use Rattle.format.specs.Encoding.{sizes}
+use Rattle.writing.specs.declared.Written.the-variants.{Refused}
+use Rattle.joining.specs.Joining.{beyond, manyCounts, manyOps, writtenOf}
+use Rattle.joining.proofs.EachLaws.{each-imply}
+use Rattle.joining.proofs.Limits.{FewOps, none-passes}
+
+pub many-refused : (x : Automaton) (space : ℕ) → any manyOps (x .arcs) ≡ true → writtenOf x space ≡ Refused 11 0
+unfolding writtenOf beyond
+many-refused x space e = rw (e, or-true (manyCounts (sizes x)))
+
+pub none-many : (l : List Arc) → any manyOps l ≡ false → Each FewOps l
+none-many l e = each-imply (λ (a : Arc). manyOps a ≡ false) FewOps (λ (a : Arc) (k : manyOps a ≡ false). ltb-false 8 (length (a .ops)) k) l (none-passes manyOps l e)

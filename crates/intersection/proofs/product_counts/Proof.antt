@@ -1,0 +1,34 @@
+use native.Mathlib.Omega.{arith}
+use native.Mathlib.Nat.{mul-le-mul-left}
+use borrow.Author.Needs.{needs}
+use Rattle.intersection.proofs.IntersectionBytes.{intersection-counts}
+use Rattle.intersection.proofs.product_counts.Statement.{statement}
+use Rattle.intersection.proofs.product_counts.Tie as tie
+use Rattle.intersection.proofs.product_counts.Reads as reads
+use Rattle.intersection.proofs.product_counts.Lts as lts
+use Rattle.joining.proofs.answer.larger.Reads as larger-reads
+
+-- src/lib.rt:37:17
+mul-t4 : tie.Need-mul-t4
+mul-t4 c =
+    let s = c .before .before in
+    omega (arith, mul-le-mul-left (s .args .a .states) (s .pre .1 .states), s .pre .0 .states)
+
+-- src/lib.rt:38:20
+add-t5 : tie.Need-add-t5
+add-t5 c = search needs
+
+-- src/lib.rt:38:20
+sub-t6 : tie.Need-sub-t6
+sub-t6 c = search needs
+
+-- src/lib.rt:39:18
+larger-requires : tie.Need-larger-requires
+larger-requires c κs = search needs
+
+-- src/lib.rt:31:1
+returns : tie.Need-returns
+returns c = λ x y p q e. rw (c .larger .ensures, ← p, ← q, ← e) (intersection-counts x y)
+
+pub product-counts-spec : {M : Type 1} → statement M
+product-counts-spec = tie.close (tie.spec mul-t4 add-t5 sub-t6 larger-requires returns)
