@@ -3,7 +3,7 @@
 // output as it was lent; else the joined file stands at its front, and the bytes behind it are as they were lent.
 ghost use mathlib.Core.Path.{_≡_};
 ghost use lib.ListN.{length};
-ghost use Rattle.automata.specs.Joins.{union, concatenation, closure};
+ghost use Rattle.automata.specs.Joins.{union, concatenation, intersection, closure};
 ghost use Rattle.format.specs.Decoding.{automatonOf};
 ghost use Rattle.format.specs.Encoding.{bytesOf};
 ghost use Rattle.writing.specs.Answers.{outputOf};
@@ -45,6 +45,21 @@ pub fn concatenate(first: &[u8], second: &[u8], out: &mut [u8]) -> Written
     match files {
         Files::Fault(number, automaton) => Written::Refused(number, automaton),
         Files::Both(a, b) => concatenations::append(out, a, first, b, second),
+    }
+}
+
+// Writes an automaton that accepts the words of both: its states are the pairs of theirs, and it has the registers of both.
+// Refuses, in this order: 1 to 9, the first file's fault; 1 to 9, the second's; 10, the letter lists differ; 11, the joined
+// automaton beyond a limit on states, registers, arcs or operations of an arc; 25, the output shorter than the result.
+// Cost: one pass over each file to read it, one over the pairs of their arcs to count, and one over those pairs to write.
+pub fn intersect(first: &[u8], second: &[u8], out: &mut [u8]) -> Written
+    ensures answer { λ r. ⌜ r ≡ joinedOf intersection (now (first .entry)) (now (second .entry)) (length (now (out .entry))) ⌝ }
+    ensures output { λ r. ⌜ now (out .exit) ≡ outputOf r (bytesOf (intersection (automatonOf (now (first .entry))) (automatonOf (now (second .entry))))) (now (out .entry)) ⌝ }
+{
+    let files = read_files(first, second);
+    match files {
+        Files::Fault(number, automaton) => Written::Refused(number, automaton),
+        Files::Both(a, b) => intersection::product(out, a, first, b, second),
     }
 }
 

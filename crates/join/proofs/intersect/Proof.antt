@@ -1,0 +1,54 @@
+use mathlib.Core.Path.{_∙_, refl, sym}
+use borrow.Author.Needs.{needs}
+use Rattle.automata.specs.Joins.{intersection}
+use Rattle.join.proofs.intersect.Statement.{statement}
+use Rattle.joining.proofs.FileLaws.{both-joinable, joined-both, joined-fault}
+use Rattle.join.proofs.intersect.Tie as tie
+use Rattle.join.proofs.intersect.Reads as reads
+use Rattle.join.proofs.intersect.Lts as lts
+use Rattle.joining.proofs.files.read_files.Reads as read-files-reads
+use Rattle.intersection.proofs.product.Reads as product-reads
+
+-- src/lib.rt:29:9
+read-files-requires : tie.Need-read-files-requires
+read-files-requires c κs = search needs
+
+-- src/lib.rt:31:22
+enum-known-files : tie.Need-enum-known-files
+enum-known-files c = search needs
+
+-- src/lib.rt:32:21
+enum-known-files-2 : tie.Need-enum-known-files-2
+enum-known-files-2 c = search needs
+
+-- src/lib.rt:32:30
+product-requires : tie.Need-product-requires
+product-requires c κs = both-joinable _ _ (sym (c .before .before .before .before .read-files .ensures) ∙ c .before .before .files2 .given .1)
+
+-- src/lib.rt:25:1
+returns : tie.Need-returns
+returns c = (sym (joined-fault intersection _ _ _ (sym (c .before .before .before .read-files .ensures) ∙ c .before .files .given .1)), refl)
+
+-- src/lib.rt:25:1
+same-length : tie.Need-same-length
+same-length c = search needs
+
+-- src/lib.rt:25:1
+returns-2 : tie.Need-returns-2
+returns-2 c =
+    let u = c .before .before in
+    let told = u .before .before .before in
+    let files = sym (told .before .before .read-files .ensures) ∙ told .files2 .given .1 in
+    (u .product .ensures .0 ∙ sym (joined-both intersection _ _ _ files), u .product .ensures .1)
+
+pub intersect-spec : {M : Type 1} → statement M
+intersect-spec =
+    tie.close
+    (tie.spec
+    read-files-requires
+    enum-known-files
+    enum-known-files-2
+    product-requires
+    returns
+    same-length
+    returns-2)
