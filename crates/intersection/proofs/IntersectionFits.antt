@@ -10,14 +10,14 @@ use lib.ListN.{length, length-map}
 use Rattle.automata.specs.Automaton.{Arc, Automaton, Op}
 use Rattle.automata.specs.Joins.{alike, arcBoth, arcFrom, arcLeft, arcRight, bothArcs, intersection, isEmptyMove, leftArcs, movedOp, rightArcs}
 use Rattle.automata.specs.Lists.{Each, countFrom, keep}
-use Rattle.automata.proofs.ListLaws.{countFrom-iff, mem-each}
+use Rattle.automata.proofs.ListLaws.{countFrom-iff, each-join, mem-each}
 use Rattle.format.specs.declared.Counts.{Counts}
 use Rattle.format.specs.Encoding.{sizes}
 use Rattle.format.specs.Limits.{Fits}
 use Rattle.format.proofs.Fitting.{ArcFits, OpFits, arcs-fit, fits-by}
 use Rattle.writing.proofs.ArcBytes.{ops-unmoved}
 use Rattle.joining.specs.Joining.{beyond}
-use Rattle.joining.proofs.EachLaws.{each-append, each-flatMap, each-imply, each-keep, each-map}
+use Rattle.joining.proofs.EachLaws.{each-flatMap, each-imply, each-keep, each-map}
 use Rattle.joining.proofs.Limits.{FewOps, within}
 use Rattle.joining.proofs.MovedFits.{Room, arc-moved, ops-moved}
 use Rattle.intersection.proofs.ArcsOf.{joint-ops}
@@ -81,7 +81,7 @@ module _ (a b : Automaton) (fa : Fits a) (fb : Fits b) (shared : b .alphabet ≡
     target = pair-small (x .target) (y .target) (p .target) (q .target);
     some-op = omega (arith, joint-ops (cb .states) k x y, p .some-op);
     few-ops = few;
-    ops = each-append (OpFits d) (x .ops) (map (movedOp k) (y .ops)) (rw (ops-unmoved (x .ops)) at (ops-moved 0 ca d room-left (x .ops) (p .ops))) (ops-moved k cb d room-right (y .ops) (q .ops));
+    ops = each-join (OpFits d) (x .ops) (map (movedOp k) (y .ops)) (rw (ops-unmoved (x .ops)) at (ops-moved 0 ca d room-left (x .ops) (p .ops))) (ops-moved k cb d room-right (y .ops) (q .ops));
   }
 
   left-fits : (x : Arc) (j : ℕ) → ArcFits ca x → j < cb .states → ArcFits d (arcLeft (cb .states) x j)
@@ -130,7 +130,7 @@ module _ (a b : Automaton) (fa : Fits a) (fb : Fits b) (shared : b .alphabet ≡
   unfolding intersection
   intersection-arcs few =
       each-apply FewOps (ArcFits d) (bothArcs a b ++ (leftArcs a b ++ rightArcs a b))
-      (each-append Pending (bothArcs a b) (leftArcs a b ++ rightArcs a b) joint-pending (each-append Pending (leftArcs a b) (rightArcs a b) left-pending right-pending)) few
+      (each-join Pending (bothArcs a b) (leftArcs a b ++ rightArcs a b) joint-pending (each-join Pending (leftArcs a b) (rightArcs a b) left-pending right-pending)) few
 
   -- what has no arc with more than 8 operations, and counts within the limits, is a file's automaton
   pub intersection-fits : beyond (intersection a b) ≡ false → Fits (intersection a b)

@@ -7,16 +7,17 @@ use mathlib.Core.List.{List}
 use Prim.Native.Nat.{ℕ}
 use lib.ListN.{length}
 use Rattle.automata.specs.Automaton.{Automaton, WellFormed}
-use Rattle.automata.specs.Joins.{Split, closure, concatenation, union}
+use Rattle.automata.specs.Joins.{Split, closure, concatenation, intersection, union}
 use Rattle.automata.specs.Words.{Language}
-use Rattle.automata.proofs.Laws.{concatenating, uniting}
+use Rattle.automata.proofs.Laws.{concatenating, intersecting, uniting}
 use Rattle.format.specs.Decoding.{automatonOf}
 use Rattle.format.specs.Encoding.{bytesOf}
 use Rattle.format.specs.Limits.{Fits}
 use Rattle.writing.specs.Answers.{outputOf}
 use Rattle.writing.specs.declared.Written.{Written}
 use Rattle.joining.specs.Joining.{beyond, closedOf, joinedOf}
-use Rattle.join.specs.Promises.{Closed, InEither, TwoJoined}
+use Rattle.intersection.proofs.IntersectionFits.{intersection-fits}
+use Rattle.join.specs.Promises.{Closed, InBoth, InEither, TwoJoined}
 use Rattle.join.proofs.JoinedFits.{concatenation-fits, union-fits}
 use Rattle.join.proofs.Outcomes.{one-closed, two-joined}
 
@@ -43,6 +44,10 @@ module _ (first second old out : List ℕ) (answer : Written) where
   -- concatenation: a word of the first and then a word of the second
   pub concatenation-promised : Answers concatenation first second old answer → Leaves concatenation first second old out answer → TwoJoined concatenation Split first second old out answer
   concatenation-promised = join-promised concatenation Split concatenation-fits concatenating first second old out answer
+
+  -- intersection: the words of both
+  pub intersection-promised : Answers intersection first second old answer → Leaves intersection first second old out answer → TwoJoined intersection InBoth first second old out answer
+  intersection-promised = join-promised intersection InBoth intersection-fits intersecting first second old out answer
 
 -- closure: the finite sequences of words, none at all included
 pub closure-promised : (file old out : List ℕ) (answer : Written) → answer ≡ closedOf file (length old) → out ≡ outputOf answer (bytesOf (closure (automatonOf file))) old → Closed file old out answer
