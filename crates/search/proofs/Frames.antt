@@ -18,7 +18,7 @@ use Rattle.sets.specs.Rows.{row}
 use Rattle.sets.proofs.Laws.{row-above, row-below}
 use Rattle.table.specs.Stepping.{FromList, Held, Room, Starts, setOf}
 use Rattle.table.proofs.BlockFrame.{SameBlock, block-kept, held-same, list-kept, starts-kept}
-use Rattle.pairs.specs.Map.{firstBlock, parents, pairHeads, pairNexts, pairsEnd, secondBlock}
+use Rattle.pairs.specs.Map.{firstBlock, firstSets, parents, pairHeads, pairNexts, pairsEnd, secondBlock, secondSets}
 use Rattle.pairs.specs.Entries.{Child, Holds, Side}
 use Rattle.pairs.specs.Pairs.{pairSlot}
 use Rattle.search.specs.Searching.{Behind, Both, Ready, Table}
@@ -28,7 +28,7 @@ pub held-kept : {base count plain a : ℕ} {arcs : List PlainArc} {w w' : List �
     → Held count a arcs (FromList w base count plain) → Held count a arcs (FromList w' base count plain)
 held-kept b s held = held-same (λ c l j h. list-kept b c s h refl refl l j) held
 
--- a row of a block, written below it
+-- the first row of a block, once words below the blocks are written
 first-row : {base : ℕ} {w w' : List ℕ} → Kept 0 firstBlock w w' → firstBlock ≤ base → row w' base 0 ≡ row w base 0
 first-row {base} k h = row-above base 0 k (omega arith)
 
@@ -57,10 +57,10 @@ both-kept {count₁ = count₁} {count₂ = count₂} k r b =
     }
 
 -- what the steps ask
-pub room-first : {w : List ℕ} → 8192 ≤ length w → Room w 4992 4480
+pub room-first : {w : List ℕ} → 8192 ≤ length w → Room w firstBlock firstSets
 room-first h = record { block = omega arith; rows = omega arith; apart = inl (omega arith) }
 
-pub room-second : {w : List ℕ} → 8192 ≤ length w → Room w 6592 4736
+pub room-second : {w : List ℕ} → 8192 ≤ length w → Room w secondBlock secondSets
 room-second h = record { block = omega arith; rows = omega arith; apart = inl (omega arith) }
 
 -- ---- the sets of the letters
