@@ -1,3 +1,4 @@
 pub mod Comparing
 pub mod Compares
 pub mod Promised
+pub mod Answers

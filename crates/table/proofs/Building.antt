@@ -140,7 +140,7 @@ module _ (x : Automaton) (L : ℕ) (fits : length (configurations x L) ≤ L) {w
   }
 
 -- ---- from the answer of exploring
-explored-few : (x : Automaton) (L k p : ℕ) → Tables k p ≡ exploredOf x L → (length (configurations x L) ≤ L) × (k ≡ length (configurations x L)) × (p ≡ length (plainArcs x L))
+pub explored-few : (x : Automaton) (L k p : ℕ) → Tables k p ≡ exploredOf x L → (length (configurations x L) ≤ L) × (k ≡ length (configurations x L)) × (p ≡ length (plainArcs x L))
 unfolding exploredOf
 explored-few x L k p e = go (decLt L n)
   where
@@ -150,6 +150,17 @@ explored-few x L k p e = go (decLt L n)
     go : Dec (L < n) → (n ≤ L) × (k ≡ n) × (p ≡ length (plainArcs x L))
     go (yes h) = absurd (let f : Tables k p ≡ TooMany = e ∙ rw (lt-ltb L n h) in let z : _≡_ {A = ℕ} 0 1 = cc in omega arith)
     go (no h) = let f : Tables k p ≡ Tables n (length (plainArcs x L)) = e ∙ rw (le-ltb L n (omega arith)) in (omega arith, cc, cc)
+
+pub explored-many : (x : Automaton) (L : ℕ) → TooMany ≡ exploredOf x L → L < length (configurations x L)
+unfolding exploredOf
+explored-many x L e = go (decLt L n)
+  where
+    n : ℕ
+    n = length (configurations x L)
+
+    go : Dec (L < n) → L < n
+    go (yes h) = h
+    go (no h) = absurd (let f : TooMany ≡ Tables n (length (plainArcs x L)) = e ∙ rw (le-ltb L n (omega arith)) in let z : _≡_ {A = ℕ} 0 1 = cc in omega arith)
 
 -- What exploring leaves is built once the rows are closed.
 pub explored-built : (x : Automaton) (L : ℕ) {w w' : List ℕ} {base k p : ℕ} → Explores x L w base (Tables k p) → k ≤ 256 → mapEnd ≤ base → Kept base (base + 4 * k) w w'

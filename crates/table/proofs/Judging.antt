@@ -5,7 +5,6 @@ use mathlib.Core.Bool.{Bool, _&&_, cond, false}
 use mathlib.Core.List.{List, [], _∷_}
 use mathlib.Core.Option.{Option, none, some}
 use Prim.Native.Nat.{_+_, _<_, _≤_, suc, zero, ℕ}
-use native.Mathlib.Decide.{decLt}
 use native.Mathlib.Omega.{arith}
 use borrow.Author.Tests.{le-ltb, lt-ltb}
 use lib.Dec.{T, eqb, ltb}
@@ -16,7 +15,7 @@ use Rattle.automata.specs.Live.{count, epsilonClosure, live, liveFrom, meets, t
 use Rattle.automata.specs.Unfolding.{accepted, acceptedBytes, configurations, finalSet, liveCount, liveSet, plainArcs, spelledOr}
 use Rattle.automata.specs.Words.{spelling}
 use Rattle.explore.specs.Explores.{exploredOf}
-use Rattle.explore.specs.declared.Explored.the-variants.{Tables, TooMany}
+use Rattle.explore.specs.declared.Explored.the-variants.{TooMany}
 use Rattle.explore.proofs.Meaning.{Good}
 use Rattle.explore.proofs.Walked.{configurations-packed}
 use Rattle.format.specs.Decoding.{decoded, isFinal}
@@ -29,7 +28,7 @@ use Rattle.table.specs.Finals.{flagPlace, isFinalIn, stateIn}
 use Rattle.table.specs.Membership.{judged}
 use Rattle.table.specs.Words.{Built, Ready, liveBytes}
 use Rattle.table.specs.declared.Membership.the-variants.{Accepted, Refused, Rejected}
-use Rattle.table.proofs.Building.{row-start}
+use Rattle.table.proofs.Building.{explored-many, row-start}
 use Rattle.table.proofs.FinalLaws.{configurations-states, final-view, flag-inside}
 
 -- nothing is in the empty set
@@ -57,15 +56,8 @@ bytes-say x L s k S many start = rw (start, many) (go (spelling (x .alphabet) s)
 
 -- where exploring answers that there are too many, so does membership
 pub judge-beyond : (x : Automaton) (L : ℕ) (word : List ℕ) → TooMany ≡ exploredOf x L → judged L x word ≡ Refused 21 1
-unfolding judged exploredOf
-judge-beyond x L word e = go (decLt L n)
-  where
-    n : ℕ
-    n = length (configurations x L)
-
-    go : Dec (L < n) → judged L x word ≡ Refused 21 1
-    go (yes h) = rw (lt-ltb L n h)
-    go (no h) = let f : TooMany ≡ Tables n (length (plainArcs x L)) = e ∙ rw (le-ltb L n (omega arith)) in let z : _≡_ {A = ℕ} 0 1 = cc in absurd (omega arith)
+unfolding judged
+judge-beyond x L word e = rw (lt-ltb L (length (configurations x L)) (explored-many x L e))
 
 -- THE LAW of judging: `live` is the live set of the word and `finals` the set of the final configurations; m says how many are live,
 -- and b whether a final one is among them

@@ -1,0 +1,44 @@
+-- LoadedLaws: an automaton that is built within the limits, with the set of its final configurations, is loaded, and stays so while
+-- another one is built.
+use mathlib.Core.Path.{_∙_, _≡_, ap, subst, sym}
+use mathlib.Core.Bool.{_&&_}
+use mathlib.Core.List.{List}
+use Prim.Native.Nat.{ℕ, _+_, _≤_}
+use lib.Dec.{ltb}
+use Rattle.automata.specs.Automaton.{Automaton}
+use Rattle.explore.specs.Arcs.{Indexed, Linked}
+use Rattle.explore.specs.Explores.{exploredOf}
+use Rattle.explore.specs.Map.{Placed}
+use Rattle.explore.specs.declared.Explored.{Explored}
+use Rattle.explore.specs.declared.Explored.the-variants.{Tables}
+use Rattle.format.specs.Decoding.{automatonOf, decoded}
+use Rattle.format.specs.Reading.{readingOf}
+use Rattle.format.specs.declared.Counts.{Counts}
+use Rattle.format.specs.declared.Reading.the-variants.{Valid}
+use Rattle.format.proofs.ValidLaws.{valid-decoded}
+use Rattle.sets.specs.Sets.{inSet}
+use Rattle.table.specs.Finals.{isFinalIn}
+use Rattle.table.specs.Words.{Builds, BuiltAs, Ready, letterSets}
+use Rattle.table.proofs.Accepting.{built-ready}
+use Rattle.table.proofs.BlockFrame.{SameBlock, built-kept}
+use Rattle.table.proofs.Judging.{ready-finals}
+use Rattle.compare.specs.Answers.{Loaded}
+
+-- what building leaves where it answers tables
+pub built-file : {file w : List ℕ} {c : Counts} {base k p : ℕ} {r : Explored} → readingOf file ≡ Valid c → Placed w base → letterSets + 256 ≤ base → Indexed c file w → Linked c file w
+    → Builds (decoded c file) 256 w base r → r ≡ Tables k p → Ready file c w base k p
+built-file {file} {w} {c} {base} e place high i l b t =
+    let q = subst (λ (r : Explored). BuiltAs (decoded c file) 256 w base r) t (b .block) in
+    built-ready e place high i l (q .0) (q .1 .0) (q .1 .1)
+
+-- what it answers
+pub built-answer : (file : List ℕ) {w : List ℕ} {c : Counts} {base : ℕ} {r : Explored} → readingOf file ≡ Valid c → Builds (decoded c file) 256 w base r → r ≡ exploredOf (automatonOf file) 256
+built-answer file {c = c} e b = b .answer ∙ ap (λ (x : Automaton). exploredOf x 256) (sym (valid-decoded file c e))
+
+pub loaded : {file w : List ℕ} {c : Counts} {base k p : ℕ} (f : List ℕ) → readingOf file ≡ Valid c → Ready file c w base k p → p ≤ 2048 → ((j : ℕ) → inSet f j ≡ (ltb j k && isFinalIn file c w j))
+    → Loaded (automatonOf file) 256 w base k p f
+loaded {file} {w} {c} {base} {k} {p} f e r few is =
+    subst (λ (x : Automaton). Loaded x 256 w base k p f) (sym (valid-decoded file c e)) (record { built = r .built; listed = few; finals = ready-finals r f is })
+
+pub loaded-kept : {x : Automaton} {L : ℕ} {w w' : List ℕ} {base k p : ℕ} {f : List ℕ} → SameBlock base w w' → k ≤ 256 → Loaded x L w base k p f → Loaded x L w' base k p f
+loaded-kept b few l = record { built = built-kept b few (l .built); listed = l .listed; finals = l .finals }

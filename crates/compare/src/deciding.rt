@@ -1,0 +1,50 @@
+// Deciding: two automata that are built, each in its block, compared by the pairs of their live sets.
+ghost use mathlib.Core.Path.{_≡_};
+ghost use Prim.Native.Nat.{_≤_};
+ghost use lib.ListN.{length};
+ghost use Rattle.automata.specs.Automaton.{Automaton};
+ghost use Rattle.search.specs.Searching.{Ready};
+ghost use Rattle.compare.specs.Answers.{Answers, Comparable, pairTest};
+use super::Comparison;
+use pairs::Grown;
+use search::explore_pairs;
+use shown::first_difference;
+use shown::judge_pair;
+use shown::put_word;
+
+// All pairs are explored, whether or not one of them differs, and the first that differs is shown. f and g are the sets of the final
+// configurations; the letters are those of both. Refuses 23: more than 512 pairs.
+// Cost: for each pair one row for each plain arc of a live configuration, and a look into the table for each letter that is met.
+pub fn decide(
+    w: &mut [u64],
+    count1: usize,
+    plain1: usize,
+    f: [u64; 4],
+    count2: usize,
+    plain2: usize,
+    g: [u64; 4],
+    letters: &[u8],
+    word: &mut [u8],
+) -> Comparison
+    requires { ⌜ Ready (length (now letters)) (now w) count1 plain1 count2 plain2 × (512 ≤ length (now word)) ⌝ }
+    ensures same { λ _. ⌜ length (now (w .exit)) ≡ length (now (w .entry)) ⌝ }
+    ensures answers { λ r. ⌜ ((x y : Automaton) → Comparable x y 256 (now (w .entry)) count1 plain1 f count2 plain2 g (now (letters .entry)) → Answers 256 512 (pairTest 256 512 x y) x y (now (word .entry)) (now (word .exit)) r) ⌝ }
+{
+    let Grown::Total(n) = explore_pairs(w, letters.len(), count1, plain1, count2, plain2) else {
+        return Comparison::Refused {
+            number: 23,
+            automaton: 0,
+        };
+    };
+    let i = first_difference(w, n, f, g);
+    if i == n {
+        return Comparison::Same(n as u64);
+    }
+    let taker = judge_pair(w, i, f, g);
+    let length = put_word(w, letters.len(), n, i, letters, word);
+    Comparison::Different {
+        pairs: n as u64,
+        taker,
+        length,
+    }
+}
