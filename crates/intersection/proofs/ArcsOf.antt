@@ -1,30 +1,28 @@
 -- ArcsOf: arcs of an intersection, made of the arcs of its files as loops meet them.
-use mathlib.Core.Path.{_≡_, _∙_, ap, refl, sym}
+use mathlib.Core.Path.{_≡_, _∙_, ap, refl}
 use mathlib.Core.Logic.{_≢_}
-use mathlib.Core.Bool.{Bool, true, false, or-false}
-use mathlib.Core.List.{List, [], _∷_, _++_, map, flatMap, append-nil}
-use mathlib.Core.Option.{Option, none, some}
-use Prim.Native.Nat.{ℕ, suc, zero, _+_, _-_, _*_, _<_, _≤_}
-use native.Mathlib.Nat.{suc-mul, zero-mul}
+use mathlib.Core.Bool.{Bool, true, false}
+use mathlib.Core.List.{List, [], _∷_, _++_, map, flatMap}
+use mathlib.Core.Option.{Option}
+use Prim.Native.Nat.{ℕ, _+_, _-_, _<_, _≤_}
 use native.Mathlib.Numerals.{add-one}
 use native.Mathlib.Omega.{arith}
-use borrow.Author.Tests.{eq-eqb, ne-eqb, le-ltb}
-use lib.Dec.{ltb, eqb}
+use borrow.Author.Tests.{eq-eqb, ne-eqb}
+use lib.Dec.{eqb}
 use lib.ListN.{length, drop, getD, length-append, length-map}
 use Rattle.automata.specs.Automaton.{Arc}
-use Rattle.automata.specs.Lists.{any, keep, countFrom, sameLetter}
+use Rattle.automata.specs.Lists.{keep, countFrom, sameLetter}
 use Rattle.automata.specs.Joins.{alike, arcBoth, isEmptyMove, movedOp}
 use Rattle.format.specs.declared.Counts.{Counts}
-use Rattle.format.specs.Decoding.{arcOf, arcsOf, letterOf, opsOf}
+use Rattle.format.specs.Decoding.{arcOf, arcsOf, letterOf}
 use Rattle.format.specs.Encoding.{arcBytes, arcsBytes}
 use Rattle.format.specs.Reading.{arcSize}
 use Rattle.format.proofs.ArcLaws.{ops-count}
 use Rattle.format.proofs.Steps.{down, none-left}
 use Rattle.writing.proofs.ArcBytes.{arc-length}
 use Rattle.joining.proofs.Walking.{arc-at, arcs-next, arcs-none}
-use Rattle.intersection.specs.declared.counting.Tally.{Tally}
 use Rattle.intersection.specs.declared.beside.Beside.{Beside}
-use Rattle.intersection.specs.Pairing.{besideArc, jointWith, emptyWith, Tallied}
+use Rattle.intersection.specs.Pairing.{besideArc, jointWith, emptyWith}
 
 -- ---- letters as bytes
 empty-unlike : (u : ℕ) (β : Option ℕ) → u ≡ 255 → alike (letterOf u) β ≡ false
@@ -158,33 +156,9 @@ module _ (f : Arc → ℕ → Arc) (n : ℕ) (c : Counts) (s : List ℕ) (m i fr
 pub empty-none : (f : Arc → ℕ → Arc) (n : ℕ) (c : Counts) (s : List ℕ) (m i from : ℕ) → m ≤ i → emptyWith f n (arcsOf (m - i) (drop from s)) ≡ []
 empty-none f n = flat-none (λ (x : Arc). keep (isEmptyMove (x .letter)) (map (f x) (countFrom 0 n)))
 
--- ---- counts of few arcs
-pub none-tallied : Tallied (record { arcs = 0; size = 0; many = false }) []
-unfolding arcsBytes any
-none-tallied = record { arcs = refl; size = refl; many = refl }
-
-pub one-tallied : (x : Arc) (p : ℕ) → length (x .ops) ≡ p → Tallied (record { arcs = 1; size = 4 + 2 * p; many = ltb 8 p }) (x ∷ [])
-unfolding arcsBytes any
-one-tallied x p e = record {
-  arcs = refl;
-  size = omega (arith, length-append (arcBytes x) [], arc-length x);
-  many = rw e (sym (or-false (ltb 8 p)));
-}
-
+-- a joint arc has the operations of both
 pub joint-ops : (n k : ℕ) (x y : Arc) → length (arcBoth n k x y .ops) ≡ length (x .ops) + length (y .ops)
 joint-ops n k x y = length-append (x .ops) (map (movedOp k) (y .ops)) ∙ ap (λ (q : ℕ). length (x .ops) + q) (length-map (y .ops) (movedOp k))
-
--- as many as states, each with p operations
-pub all-tallied : (g : ℕ → Arc) (p : ℕ) → ((i : ℕ) → length (g i .ops) ≡ p) → p ≤ 8 → (j n : ℕ) → Tallied (record { arcs = n; size = n * (4 + 2 * p); many = false }) (map g (countFrom j n))
-unfolding arcsBytes any countFrom
-all-tallied g p e h j zero = record { arcs = refl; size = zero-mul (4 + 2 * p); many = refl }
-all-tallied g p e h j (suc n) =
-    let rest = all-tallied g p e h (suc j) n in
-    record {
-      arcs = ap suc (rest .arcs);
-      size = omega (arith, suc-mul n (4 + 2 * p), rest .size, length-append (arcBytes (g j)) (arcsBytes (map g (countFrom (suc j) n))), arc-length (g j), e j);
-      many = rw (e j, le-ltb 8 p h) (rest .many);
-    }
 
 -- ---- an empty move beside the states that are left
 module _ (g : ℕ → Arc) (n i : ℕ) where

@@ -1,5 +1,5 @@
 -- IntersectionBytes: the counts of an intersection, and its bytes in the parts in which they are written.
-use mathlib.Core.Path.{_≡_, _∙_, ap, ap₂, refl, sym}
+use mathlib.Core.Path.{_≡_, _∙_, ap, ap₂, sym}
 use mathlib.Core.List.{List, _++_, append-assoc, flatMap, map}
 use Prim.Native.Nat.{ℕ, _+_, _-_, _*_, max}
 use native.Mathlib.Omega.{arith}

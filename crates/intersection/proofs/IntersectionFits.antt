@@ -3,11 +3,11 @@ use mathlib.Core.Path.{_≡_, ap}
 use mathlib.Core.Bool.{false}
 use mathlib.Core.List.{List, [], _∷_, _++_, flatMap, map}
 use mathlib.Core.Option.{none}
-use Prim.Native.Nat.{ℕ, _+_, _-_, _*_, _<_, _≤_}
+use Prim.Native.Nat.{ℕ, _+_, _-_, _*_, _<_}
 use native.Mathlib.Nat.{one-le-mul}
 use native.Mathlib.Omega.{arith}
-use lib.ListN.{length, length-map}
-use Rattle.automata.specs.Automaton.{Arc, Automaton, Op}
+use lib.ListN.{length}
+use Rattle.automata.specs.Automaton.{Arc, Automaton}
 use Rattle.automata.specs.Joins.{alike, arcBoth, arcFrom, arcLeft, arcRight, bothArcs, intersection, isEmptyMove, leftArcs, movedOp, rightArcs}
 use Rattle.automata.specs.Lists.{Each, countFrom, keep}
 use Rattle.automata.proofs.ListLaws.{countFrom-iff, each-join, mem-each}

@@ -1,11 +1,14 @@
--- Uncounted: what is left to count of a list of arcs, and one step of it.
+-- Uncounted: counts of arcs: what is left to count of a list, one step of it, and the counts of a single arc and of equally long ones.
 use mathlib.Core.Path.{_≡_, _∙_, ap, refl, sym}
-use mathlib.Core.Bool.{Bool, true, false, _||_, or-assoc, or-false}
-use mathlib.Core.List.{List, [], _∷_, _++_}
-use Prim.Native.Nat.{ℕ, _+_, _*_}
+use mathlib.Core.Bool.{Bool, false, _||_, or-assoc, or-false}
+use mathlib.Core.List.{List, [], _∷_, _++_, map}
+use Prim.Native.Nat.{ℕ, suc, zero, _+_, _*_, _≤_}
+use native.Mathlib.Nat.{suc-mul, zero-mul}
 use native.Mathlib.Omega.{arith}
+use borrow.Author.Tests.{le-ltb}
+use lib.Dec.{ltb}
 use lib.ListN.{length, length-append}
-use Rattle.automata.specs.Lists.{any}
+use Rattle.automata.specs.Lists.{any, countFrom}
 use Rattle.automata.specs.Automaton.{Arc}
 use Rattle.format.specs.Encoding.{arcBytes, arcsBytes}
 use Rattle.writing.proofs.ArcBytes.{arc-length}
@@ -51,3 +54,28 @@ tallied-append l r p q = record {
   size = omega (arith, p .size, q .size, ap length (arcs-append l r), length-append (arcsBytes l) (arcsBytes r));
   many = rw (p .many, q .many) (sym (any-append manyOps l r));
 }
+
+-- ---- counts of few arcs
+pub none-tallied : Tallied (record { arcs = 0; size = 0; many = false }) []
+unfolding arcsBytes any
+none-tallied = record { arcs = refl; size = refl; many = refl }
+
+pub one-tallied : (x : Arc) (p : ℕ) → length (x .ops) ≡ p → Tallied (record { arcs = 1; size = 4 + 2 * p; many = ltb 8 p }) (x ∷ [])
+unfolding arcsBytes any
+one-tallied x p e = record {
+  arcs = refl;
+  size = omega (arith, length-append (arcBytes x) [], arc-length x);
+  many = rw e (sym (or-false (ltb 8 p)));
+}
+
+-- as many as states, each with p operations
+pub all-tallied : (g : ℕ → Arc) (p : ℕ) → ((i : ℕ) → length (g i .ops) ≡ p) → p ≤ 8 → (j n : ℕ) → Tallied (record { arcs = n; size = n * (4 + 2 * p); many = false }) (map g (countFrom j n))
+unfolding arcsBytes any countFrom
+all-tallied g p e h j zero = record { arcs = refl; size = zero-mul (4 + 2 * p); many = refl }
+all-tallied g p e h j (suc n) =
+    let rest = all-tallied g p e h (suc j) n in
+    record {
+      arcs = ap suc (rest .arcs);
+      size = omega (arith, suc-mul n (4 + 2 * p), rest .size, length-append (arcBytes (g j)) (arcsBytes (map g (countFrom (suc j) n))), arc-length (g j), e j);
+      many = rw (e j, le-ltb 8 p h) (rest .many);
+    }

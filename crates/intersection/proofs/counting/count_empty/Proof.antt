@@ -12,8 +12,8 @@ use Rattle.format.specs.Decoding.{arcOf, arcsOf}
 use Rattle.format.proofs.ValidLaws.{valid-arcs, valid-ranges}
 use Rattle.joining.proofs.Walking.{ArcHere, Walk, walk-here, walk-on, walk-start}
 use Rattle.intersection.specs.Pairing.{emptyWith}
-use Rattle.intersection.proofs.Uncounted.{Uncounted, uncounted-all, uncounted-less, uncounted-none}
-use Rattle.intersection.proofs.ArcsOf.{all-tallied, ops-here, empty-next, empty-skip, empty-none}
+use Rattle.intersection.proofs.Uncounted.{Uncounted, uncounted-all, uncounted-less, uncounted-none, all-tallied}
+use Rattle.intersection.proofs.ArcsOf.{ops-here, empty-next, empty-skip, empty-none}
 use Rattle.intersection.proofs.counting.count_empty.Statement.{statement}
 use Rattle.intersection.proofs.counting.count_empty.Tie as tie
 use Rattle.intersection.proofs.counting.count_empty.Reads as reads

@@ -1,6 +1,6 @@
 use mathlib.Core.Path.{_≡_, _∙_, ap, ap₂, sym}
 use mathlib.Core.Logic.{⊎-elim, _≢_}
-use mathlib.Core.List.{_++_, _∷_, []}
+use mathlib.Core.List.{_∷_, []}
 use Prim.Native.Nat.{ℕ, _*_, _+_, _-_, _<_, _≤_}
 use native.Mathlib.Omega.{arith}
 use lib.ListN.{drop, length}
@@ -9,8 +9,8 @@ use Rattle.format.specs.Decoding.{arcOf, arcsOf, automatonOf, letterOf}
 use Rattle.format.proofs.ValidLaws.{valid-arcs, valid-ranges}
 use Rattle.joining.proofs.Walking.{ArcHere, Walk, walk-here, walk-on, walk-start}
 use Rattle.intersection.specs.Pairing.{jointWith}
-use Rattle.intersection.proofs.Uncounted.{Uncounted, uncounted-all, uncounted-less, uncounted-none}
-use Rattle.intersection.proofs.ArcsOf.{joint-next, joint-none, joint-nothing, joint-ops, joint-skip, letter-at, none-tallied, one-tallied, ops-at}
+use Rattle.intersection.proofs.Uncounted.{Uncounted, uncounted-all, uncounted-less, uncounted-none, none-tallied, one-tallied}
+use Rattle.intersection.proofs.ArcsOf.{joint-next, joint-none, joint-nothing, joint-ops, joint-skip, letter-at, ops-at}
 use Rattle.intersection.proofs.counting.count_joint.Statement.{statement}
 use Rattle.intersection.proofs.counting.count_joint.Tie as tie
 use Rattle.intersection.proofs.counting.count_joint.Reads as reads
