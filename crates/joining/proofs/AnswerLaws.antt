@@ -4,7 +4,7 @@ use mathlib.Core.Bool.{Bool, false, true}
 use mathlib.Core.List.{List, _++_}
 use Prim.Native.Nat.{_+_, _≤_, ℕ}
 use native.Mathlib.Omega.{arith}
-use borrow.Author.Tests.{le-leb, leb-true}
+use borrow.Author.Tests.{leb-true}
 use lib.Dec.{leb}
 use lib.ListN.{drop, length}
 use Rattle.automata.specs.Automaton.{Automaton}
@@ -31,10 +31,6 @@ module _ (x : Automaton) (space : ℕ) where
       go true room p q e = let z : _≡_ {A = ℕ} 0 1 = cc in absurd (omega arith)
       go false true p q e = record { within = p; room = leb-true _ _ q; size = cc }
       go false false p q e = let z : _≡_ {A = ℕ} 0 1 = cc in absurd (omega arith)
-
-  pub bytes-written : beyond x ≡ false → length (bytesOf x) ≤ space → writtenOf x space ≡ Bytes (length (bytesOf x))
-  unfolding writtenOf
-  bytes-written p h = rw (p, le-leb _ _ h)
 
   -- what the code decides by, where no arc has more than 8 operations
   pub decided-written : (c : Counts) (size : ℕ) → Each FewOps (x .arcs) → sizes x ≡ c → length (bytesOf x) ≡ size → decided (manyCounts c) size space ≡ writtenOf x space

@@ -42,9 +42,6 @@ few-counts c e =
     let q = or-neither (ltb 256 (c .states)) (ltb 8 (c .registers)) (p .0) in
     record { states = ltb-false _ _ (q .0); registers = ltb-false _ _ (q .1); arcs = ltb-false _ _ (p .1) }
 
-pub counts-few : (c : Counts) → Few c → manyCounts c ≡ false
-counts-few c f = rw (le-ltb _ _ (f .states), le-ltb _ _ (f .registers), le-ltb _ _ (f .arcs))
-
 -- ---- the automaton
 -- 8 operations at most
 abbrev pub FewOps : Arc → Type 0
