@@ -64,6 +64,7 @@ fn answer(
         2 => lines::membership_line(table::accepts(first, second, work), line),
         3 => lines::written_line(join::union(first, second, out), out, line),
         4 => lines::written_line(join::concatenate(first, second, out), out, line),
+        5 => lines::written_line(join::intersect(first, second, out), out, line),
         6 => lines::written_line(join::close(first, out), out, line),
         7 => lines::written_line(unfold::unfold(first, work, out), out, line),
         _ => 0,
