@@ -1,0 +1,24 @@
+-- `compare_lines::compared_line` meets its contract: the buffer that comparing leaves has the shown word at its front.
+use native.Mathlib.Omega.{arith}
+use borrow.Author.Needs.{needs}
+use Rattle.compare_lines.proofs.ComparisonLaws.{compared}
+use Rattle.compare_lines.proofs.compared_line.Statement.{statement}
+use Rattle.compare_lines.proofs.compared_line.Tie as tie
+
+compare-requires : tie.Need-compare-requires
+compare-requires c κs = search needs
+
+answer-line-requires : tie.Need-answer-line-requires
+answer-line-requires c κs = search needs
+
+same-length : tie.Need-same-length
+same-length c = search needs
+
+returns : tie.Need-returns
+returns c =
+    let put = c .before .before in
+    let did = put .before .before .before .before in
+    compared (did .compare .ensures .1) (did .before .before .compare-arg .given .0 .1) (did .before .compare-arg2 .given .0 .1) (omega arith) (put .answer-line .ensures)
+
+pub compared-line-spec : {M : Type 1} → statement M
+compared-line-spec = tie.close (tie.spec compare-requires answer-line-requires same-length returns)
