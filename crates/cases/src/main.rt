@@ -2,7 +2,7 @@
 // A record is an operation (1 byte), four numbers of 4 bytes, low byte first, namely the length of the first bytes, the
 // length of the second bytes, number one and number two, and then the first bytes and the second bytes.
 // The run ends where the input ends, also inside a record, at a record that asks for more than the buffers hold, and at
-// an operation that has no answer yet, which the line `unknown` tells.
+// an operation that is none of the eight, which the line `unknown` tells.
 ghost use Prim.Native.Nat.{_<_, _≤_};
 ghost use lib.ListN.{length};
 
@@ -48,7 +48,7 @@ fn bytes_lent(operation: u8, one: usize, two: usize) -> usize {
     }
 }
 
-// Writes the line of one operation on exactly what its record lends, and answers its length; 0 where the operation has no answer.
+// Writes the line of one operation on exactly what its record lends, and answers its length; 0 where there is no such operation.
 fn answer(
     operation: u8,
     first: &[u8],
@@ -67,6 +67,7 @@ fn answer(
         5 => lines::written_line(join::intersect(first, second, out), out, line),
         6 => lines::written_line(join::close(first, out), out, line),
         7 => lines::written_line(unfold::unfold(first, work, out), out, line),
+        8 => compare_lines::case_line(compare::compare(first, second, work, out), out, line),
         _ => 0,
     }
 }
