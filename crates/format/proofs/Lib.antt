@@ -1,16 +1,4 @@
--- what callers may rely on: read this first
-pub mod Promise
-pub mod Examples
--- the laws behind it
-pub mod ValidLaws
-pub mod EncodingLaws
-pub mod CanonicalLaws
-pub mod RefusalLaws
-pub mod FrontLaws
-pub mod ByteLaws
-pub mod ArcLaws
-pub mod Fitting
--- what the functions' proofs go by
+-- what the functions' proofs go by; the laws of the file are in crate files
 pub mod Seen
 pub mod Steps
 pub mod Tests

@@ -4,4 +4,3 @@ pub mod Decoding
 pub mod Encoding
 pub mod Limits
 pub mod Placed
-pub mod Examples

@@ -2,7 +2,7 @@
 use native.Mathlib.Omega.{arith}
 use borrow.Author.Needs.{needs}
 use lib.ListN.{length-drop, length-take}
-use Rattle.format.proofs.ValidLaws.{file-seen, valid-ranges}
+use Rattle.files.proofs.ValidLaws.{file-seen, valid-ranges}
 use Rattle.writing.proofs.FileParts.{header-length, lent-letters, valid-alphabet}
 use Rattle.writing.proofs.Placed.{appended-length, written-then}
 use Rattle.unfold.specs.Listed.{plainCounts}

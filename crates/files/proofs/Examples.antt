@@ -4,11 +4,11 @@ use mathlib.Core.List.{List, [], _∷_, _++_, map}
 use Prim.Native.Nat.{ℕ}
 use lib.ListN.{take, set}
 use Rattle.automata.specs.Examples.{automatonT}
 use Rattle.format.specs.declared.Reading.the-variants.{Valid, Refused}
 use Rattle.format.specs.Reading.{readingOf}
 use Rattle.format.specs.Decoding.{automatonOf}
 use Rattle.format.specs.Encoding.{bytesOf}
-use Rattle.format.specs.Examples.{fileT}
+use Rattle.files.specs.Examples.{fileT}
 
 pub valid-T : readingOf fileT ≡ Valid (record { letters = 3; states = 3; registers = 2; symbols = 3; arcs = 5 })
 unfolding readingOf

@@ -10,18 +10,18 @@ use lib.Dec.{eqb, ltb}
 use lib.ListN.{length, drop, take, length-append, length-map}
 use lib.Seq.{drop-drop, take-at, drop-at}
 use Rattle.automata.specs.Automaton.{Op, reads, writes, Arc, Automaton, register, symbol, KeepsZero}
 use Rattle.format.specs.declared.Counts.{Counts}
 use Rattle.format.specs.declared.Reading.the-variants.{Valid}
 use Rattle.format.specs.Reading.{countsOf, letterBytes, ascending, flagBytes, firstArc, flags, wellFields, wellOp, wellOps, arcSize, arcTests, arcsTests, readingOf}
 use Rattle.format.specs.Decoding.{opOf, opsOf, letterOf, arcOf, arcsOf, isFinal, decoded, automatonOf}
 use Rattle.format.specs.Encoding.{sizes, flagByte, kind, opsBytes, letterByte, arcBytes, arcsBytes, bytesOf}
 use Rattle.format.specs.Limits.{Ranges, Fits}
 use Rattle.automata.specs.Lists.{Each}
 use Rattle.automata.proofs.ListLaws.{each-join}
 use Rattle.format.proofs.Tests.{Holds, Hold}
 use Rattle.format.proofs.Seen.{HeaderSeen}
-use Rattle.format.proofs.Fitting.{OpFits, ArcFits, arcs-fit}
-use Rattle.format.proofs.ValidLaws.{seen-file}
+use Rattle.files.proofs.Fitting.{OpFits, ArcFits, arcs-fit}
+use Rattle.files.proofs.ValidLaws.{seen-file}
 
 -- ---- an operation
 -- the two halves of its first byte

@@ -6,13 +6,13 @@ use mathlib.Core.Option.{Option, none, some}
 use Prim.Native.Nat.{ℕ, zero, suc, _<_}
 use native.Mathlib.Omega.{arith}
 use Rattle.automata.specs.Automaton.{Op, Arc, Automaton}
 use Rattle.format.specs.declared.Counts.{Counts}
 use Rattle.format.specs.Encoding.{sizes, headerBytes, flagByte, opsBytes, letterByte, arcBytes, arcsBytes, bytesOf}
 use Rattle.format.specs.Limits.{Ranges, Fits, Bytes}
 use Rattle.automata.specs.Lists.{Each}
 use Rattle.automata.proofs.ListLaws.{each-join}
-use Rattle.format.proofs.Fitting.{OpFits, ArcFits, arcs-fit}
-use Rattle.format.proofs.EncodingLaws.{few-kinds}
+use Rattle.files.proofs.Fitting.{OpFits, ArcFits, arcs-fit}
+use Rattle.files.proofs.EncodingLaws.{few-kinds}
 
 abbrev Byte : ℕ → Type 0
 Byte b = b < 256

@@ -8,17 +8,17 @@ use borrow.Author.Tests.{leb-true, eqb-true, eqb-false}
 use lib.Dec.{leb, eqb}
 use lib.ListN.{length, getD, drop, take, take-append-drop}
 use lib.Seq.{drop-drop, drop-cons}
 use Rattle.format.specs.declared.Counts.{Counts}
 use Rattle.format.specs.declared.Reading.the-variants.{Valid}
 use Rattle.format.specs.Reading.{two, countsOf, letterBytes, flagBytes, firstArc, flags, wellOp, wellOps, arcSize, arcTests, arcsTests, readingOf}
 use Rattle.format.specs.Decoding.{opOf, opsOf, letterOf, arcOf, arcsOf, isFinal, decoded, automatonOf}
 use Rattle.format.specs.Encoding.{headerBytes, flagByte, opBytes, opsBytes, letterByte, arcBytes, arcsBytes, bytesOf}
 use Rattle.format.specs.Limits.{Bytes}
 use Rattle.automata.proofs.ListLaws.{each-split}
 use Rattle.format.proofs.Tests.{and-both, all-hold, Holds, Hold}
 use Rattle.format.proofs.Seen.{HeaderSeen, ArcSeen, arc-seen}
-use Rattle.format.proofs.ArcLaws.{op-kind, ops-count}
-use Rattle.format.proofs.ValidLaws.{FileSeen, file-seen, decoded-sizes}
+use Rattle.files.proofs.ArcLaws.{op-kind, ops-count}
+use Rattle.files.proofs.ValidLaws.{FileSeen, file-seen, decoded-sizes}
 
 -- ---- an operation
 op-same : (c : Counts) (x y : ℕ) → wellOp c x y ≡ true → opBytes (opOf x y) ≡ x ∷ y ∷ []

@@ -9,19 +9,19 @@ use borrow.Author.Tests.{leb-true}
 use lib.Dec.{leb}
 use lib.ListN.{length}
 use Rattle.automata.specs.Automaton.{Automaton, WellFormed}
 use Rattle.format.specs.declared.Counts.{Counts}
 use Rattle.format.specs.declared.Reading.{Reading}
 use Rattle.format.specs.declared.Reading.the-variants.{Valid, Refused}
 use Rattle.format.specs.Reading.{countsOf, fileTests, readingOf}
 use Rattle.format.specs.Decoding.{automatonOf}
 use Rattle.format.specs.Encoding.{sizes, bytesOf}
 use Rattle.format.specs.Limits.{Fits, Bytes}
 use Rattle.format.proofs.Tests.{and-both}
-use Rattle.format.proofs.RefusalLaws.{FirstFails, refused-first, first-refused, refused-number, Known, tests-known}
-use Rattle.format.proofs.FrontLaws.{shorter-refused, longer-refused}
-use Rattle.format.proofs.ValidLaws.{valid-sizes, valid-fits, valid-wellFormed}
-use Rattle.format.proofs.EncodingLaws.{bytes-valid, bytes-back}
-use Rattle.format.proofs.CanonicalLaws.{valid-bytes}
+use Rattle.files.proofs.RefusalLaws.{FirstFails, refused-first, first-refused, refused-number, Known, tests-known}
+use Rattle.files.proofs.FrontLaws.{shorter-refused, longer-refused}
+use Rattle.files.proofs.ValidLaws.{valid-sizes, valid-fits, valid-wellFormed}
+use Rattle.files.proofs.EncodingLaws.{bytes-valid, bytes-back}
+use Rattle.files.proofs.CanonicalLaws.{valid-bytes}
 
 -- A file is valid, with the counts c, exactly if it is the bytes of an automaton within the limits that has these counts.
 pub valid-exactly : (s : List ℕ) (c : Counts) → Bytes s → (readingOf s ≡ Valid c) ↔ ((x : Automaton) × Fits x × (sizes x ≡ c) × (bytesOf x ≡ s))

@@ -9,14 +9,14 @@ use borrow.Author.Tests.{leb-true, le-leb, lt-leb}
 use lib.Dec.{leb}
 use lib.ListN.{length, getD, drop, length-drop, length-append, List·getD-append}
 use lib.Seq.{take-append-le, drop-append-le}
 use Rattle.format.specs.declared.Counts.{Counts}
 use Rattle.format.specs.declared.Reading.the-variants.{Valid, Refused}
 use Rattle.format.specs.Reading.{two, marked, countsOf, part, ascending, firstArc, flags, wellFields, wellOp, wellOps, arcSize, arcTests, arcsTests, headerTests, bodyTests, firstFault, readingOf}
 use Rattle.format.specs.Limits.{Ranges}
 use Rattle.automata.proofs.ListLaws.{each-split}
 use Rattle.format.proofs.Tests.{Holds, Hold, hold-valid}
 use Rattle.format.proofs.Seen.{HeaderSeen, seen-header, after-header, ArcSeen, arc-seen}
-use Rattle.format.proofs.ValidLaws.{FileSeen, file-seen}
+use Rattle.files.proofs.ValidLaws.{FileSeen, file-seen}
 
 module _ (t : List ℕ) (more : 0 < length t) where
   -- ---- what stands in front of t is the same

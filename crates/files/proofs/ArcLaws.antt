@@ -10,15 +10,15 @@ use borrow.Author.Tests.{leb-true, ltb-true, eqb-true, eqb-false, eq-eqb}
 use lib.Dec.{leb, ltb, eqb}
 use lib.ListN.{length, getD, drop, length-drop}
 use Rattle.automata.specs.Automaton.{reads, writes, KeepsZero}
 use Rattle.format.specs.declared.Counts.{Counts}
 use Rattle.format.specs.Reading.{wellOp, wellOps, arcSize, arcTests, arcsTests}
 use Rattle.format.specs.Decoding.{opOf, opsOf, letterOf, arcOf, arcsOf}
 use Rattle.format.specs.Placed.{whole, OkOps, OkArcs}
 use Rattle.automata.specs.Lists.{Each}
 use Rattle.automata.proofs.ListLaws.{each-split}
 use Rattle.format.proofs.Tests.{and-both, all-hold, Holds, Hold}
 use Rattle.format.proofs.Seen.{ArcSeen, arc-seen}
-use Rattle.format.proofs.Fitting.{OpFits, ArcFits}
+use Rattle.files.proofs.Fitting.{OpFits, ArcFits}
 
 -- ---- an operation
 read-keeps : (r y : ℕ) → (r ≡ 0 → y ≡ 0) → KeepsZero (reads r y)

@@ -1,0 +1,12 @@
+-- what callers may rely on: read this first
+pub mod Promise
+pub mod Examples
+-- the laws behind it
+pub mod ValidLaws
+pub mod EncodingLaws
+pub mod CanonicalLaws
+pub mod RefusalLaws
+pub mod FrontLaws
+pub mod ByteLaws
+pub mod ArcLaws
+pub mod Fitting
