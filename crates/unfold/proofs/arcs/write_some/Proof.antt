@@ -36,7 +36,7 @@ write-plain-arc-requires c κs =
     let x = arcListed (s .args .source) (field (s .args .w .now) (arcsAt (s .args .base)) (t .before .loop .i)) in
     let room = left-fits (arcBytes x) _ (turn t) in
     let small = g .get16 .ensures .1 in
-    (record { source = s .pre .0; letter = omega arith; target = omega arith }, omega (arith, arc-length x))
+    (record { source = omega (arith, s .pre .0); letter = omega arith; target = omega arith }, omega (arith, arc-length x))
 
 loop-again : tie.Need-loop-again Inv-loop μ-loop
 unfolding arcListed

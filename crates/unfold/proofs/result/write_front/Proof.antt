@@ -5,7 +5,6 @@ use lib.ListN.{length-drop, length-take}
 use Rattle.files.proofs.ValidLaws.{file-seen, valid-ranges}
 use Rattle.writing.proofs.FileParts.{header-length, lent-letters, valid-alphabet}
 use Rattle.writing.proofs.Placed.{appended-length, written-then}
-use Rattle.unfold.specs.Listed.{plainCounts}
 use Rattle.unfold.proofs.result.write_front.Statement.{statement}
 use Rattle.unfold.proofs.result.write_front.Tie as tie
 
@@ -32,8 +31,8 @@ part-write-copy-end c = omega (arith, file-seen _ _ (c .before .before .before .
 write-copy-requires : tie.Need-write-copy-requires
 write-copy-requires c κs =
     let h = c .before .before .before .before .before .write-header .ensures in
-    let s = c .before .before .before .before .before .before .before .before .before in
-    simp (length-take, length-drop) (omega (arith, h .behind, appended-length h, header-length (plainCounts (s .args .c .letters) (s .args .known) (s .args .plain)), s .pre .4))
+    let p = c .before .before .before .before .before .before .before .before .before .pre in
+    simp (length-take, length-drop) (omega (arith, rw header-length at (h .behind), appended-length h, p .4))
 
 returns : tie.Need-returns
 returns c =
