@@ -18,7 +18,7 @@ use Rattle.format.specs.Reading.{numberOf, readingOf}
 use Rattle.format.specs.declared.Counts.{Counts}
 use Rattle.format.specs.declared.Reading.{Reading}
 use Rattle.format.specs.declared.Reading.the-variants.{Refused as Faulty, Valid}
-use Rattle.files.proofs.Promise.{number-range}
+use Rattle.file_laws.proofs.Promise.{number-range}
 use Rattle.joining.specs.Joining.{Joinable, filesOf, paired, sameLetters}
 use Rattle.joining.specs.declared.files.Files.the-variants.{Fault}
 use Rattle.table.proofs.Building.{explored-few, explored-many}

@@ -15,7 +15,7 @@ use Rattle.format.specs.Decoding.{automatonOf, decoded}
 use Rattle.format.specs.Reading.{readingOf}
 use Rattle.format.specs.declared.Counts.{Counts}
 use Rattle.format.specs.declared.Reading.the-variants.{Valid}
-use Rattle.files.proofs.ValidLaws.{valid-decoded}
+use Rattle.file_laws.proofs.ValidLaws.{valid-decoded}
 use Rattle.sets.specs.Sets.{inSet}
 use Rattle.table.specs.Finals.{isFinalIn}
 use Rattle.table.specs.Words.{Builds, BuiltAs, Ready, letterSets}

@@ -20,7 +20,7 @@ use Rattle.format.specs.Decoding.{automatonOf}
 use Rattle.format.specs.Reading.{numberOf, readingOf}
 use Rattle.format.specs.declared.Reading.{Reading}
 use Rattle.format.specs.declared.Reading.the-variants.{Refused as Fault, Valid}
-use Rattle.files.proofs.Promise.{number-range, valid-automaton}
+use Rattle.file_laws.proofs.Promise.{number-range, valid-automaton}
 use Rattle.compare.specs.Comparing.{answerAt, bufferOf, comparedAt, comparisonOf, faultOf, tests, told, unlessRefused}
 use Rattle.compare.specs.Compares.{Compares, Shown, ShownBy}
 use Rattle.compare.specs.Promised.{FirstHolds, OneRule, Premises, Promised, conditions}

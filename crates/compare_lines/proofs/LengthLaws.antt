@@ -18,7 +18,7 @@ use Rattle.format.specs.Decoding.{automatonOf}
 use Rattle.format.specs.Reading.{numberOf, readingOf}
 use Rattle.format.specs.declared.Reading.{Reading}
 use Rattle.format.specs.declared.Reading.the-variants.{Refused as Fault, Valid}
-use Rattle.files.proofs.Promise.{number-range}
+use Rattle.file_laws.proofs.Promise.{number-range}
 use Rattle.text.specs.Digits.{decimalOf, hexDigits, hexOf}
 use Rattle.text.specs.Line.{ascii}
 use Rattle.text.proofs.DigitLaws.{decimal-more, decimal-one}

@@ -1,4 +1,4 @@
--- what the functions' proofs go by; the laws of the file are in crate files
+-- what the functions' proofs go by; the laws of the file are in crate file_laws
 pub mod Seen
 pub mod Steps
 pub mod Tests

@@ -17,7 +17,7 @@ use Rattle.format.specs.declared.Counts.{Counts}
 use Rattle.format.specs.Decoding.{arcOf, arcsOf, letterOf}
 use Rattle.format.specs.Encoding.{arcBytes, arcsBytes}
 use Rattle.format.specs.Reading.{arcSize}
-use Rattle.files.proofs.ArcLaws.{ops-count}
+use Rattle.file_laws.proofs.ArcLaws.{ops-count}
 use Rattle.format.proofs.Steps.{down, none-left}
 use Rattle.writing.proofs.ArcBytes.{arc-length}
 use Rattle.joining.proofs.Walking.{arc-at, arcs-next, arcs-none}

@@ -14,7 +14,7 @@ use Rattle.automata.proofs.ListLaws.{countFrom-iff, each-join, mem-each}
 use Rattle.format.specs.declared.Counts.{Counts}
 use Rattle.format.specs.Encoding.{sizes}
 use Rattle.format.specs.Limits.{Fits}
-use Rattle.files.proofs.Fitting.{ArcFits, OpFits, arcs-fit, fits-by}
+use Rattle.file_laws.proofs.Fitting.{ArcFits, OpFits, arcs-fit, fits-by}
 use Rattle.writing.proofs.ArcBytes.{ops-unmoved}
 use Rattle.joining.specs.Joining.{beyond}
 use Rattle.joining.proofs.EachLaws.{each-flatMap, each-imply, each-keep, each-map}

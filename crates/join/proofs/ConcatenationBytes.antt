@@ -11,7 +11,7 @@ use Rattle.automata.proofs.ListLaws.{map-append}
 use Rattle.format.specs.declared.Counts.{Counts}
 use Rattle.format.specs.Encoding.{arcsBytes, bytesOf, flagByte, headerBytes, sizes}
 use Rattle.format.specs.Reading.{firstArc}
-use Rattle.files.proofs.EncodingLaws.{bytes-length}
+use Rattle.file_laws.proofs.EncodingLaws.{bytes-length}
 use Rattle.joining.proofs.Walking.{arcs-append, arcs-moved-length, returning-length}
 use Rattle.joining.proofs.MovedFits.{empty-moves, unmoved}
 use Rattle.joining.proofs.FinalLaws.{returning}

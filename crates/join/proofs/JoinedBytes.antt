@@ -11,7 +11,7 @@ use Rattle.automata.proofs.SearchLaws.{at}
 use Rattle.format.specs.declared.Counts.{Counts}
 use Rattle.format.specs.Encoding.{arcBytes, arcsBytes, bytesOf, flagByte, headerBytes, sizes}
 use Rattle.format.specs.Reading.{firstArc}
-use Rattle.files.proofs.EncodingLaws.{bytes-length}
+use Rattle.file_laws.proofs.EncodingLaws.{bytes-length}
 use Rattle.joining.proofs.Walking.{arcs-append, arcs-moved-length, entry-length, returning-length}
 use Rattle.joining.proofs.MovedFits.{moved-states}
 use Rattle.joining.proofs.FinalLaws.{returning}

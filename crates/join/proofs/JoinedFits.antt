@@ -14,7 +14,7 @@ use Rattle.format.specs.declared.Counts.{Counts}
 use Rattle.format.specs.Limits.{Fits}
 use Rattle.format.specs.Reading.{ascending}
 use Rattle.format.specs.Encoding.{sizes}
-use Rattle.files.proofs.Fitting.{ArcFits, fits-by, arcs-fit}
+use Rattle.file_laws.proofs.Fitting.{ArcFits, fits-by, arcs-fit}
 use Rattle.automata.specs.Lists.{Each}
 use Rattle.joining.specs.Joining.{beyond}
 use Rattle.joining.proofs.Limits.{Few, FewOps, within}

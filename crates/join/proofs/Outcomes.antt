@@ -23,8 +23,8 @@ use Rattle.format.specs.Limits.{Fits}
 use Rattle.format.specs.Reading.{numberOf, readingOf}
 use Rattle.format.specs.declared.Reading.{Reading}
 use Rattle.format.specs.declared.Reading.the-variants.{Refused as Faulty, Valid}
-use Rattle.files.proofs.Promise.{number-range, round-trip}
-use Rattle.files.proofs.ValidLaws.{valid-fits}
+use Rattle.file_laws.proofs.Promise.{number-range, round-trip}
+use Rattle.file_laws.proofs.ValidLaws.{valid-fits}
 use Rattle.writing.specs.Answers.{Refuses, outputOf}
 use Rattle.writing.specs.declared.Written.{Written}
 use Rattle.writing.specs.declared.Written.the-variants.{Bytes, Refused}

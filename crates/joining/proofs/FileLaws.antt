@@ -18,7 +18,7 @@ use Rattle.format.specs.declared.Reading.the-variants.{Valid, Refused as Faulty
 use Rattle.format.specs.Reading.{readingOf, letterBytes}
 use Rattle.format.specs.Decoding.{automatonOf, decoded}
 use Rattle.format.specs.Encoding.{headerBytes}
-use Rattle.files.proofs.ValidLaws.{valid-decoded}
+use Rattle.file_laws.proofs.ValidLaws.{valid-decoded}
 use Rattle.writing.specs.declared.Written.the-variants.{Refused}
 use Rattle.joining.specs.declared.files.Files.the-variants.{Both, Fault}
 use Rattle.joining.specs.Joining.{sameLetters, paired, filesOf, Joinable, joinedOf, writtenOf, closedOf}

@@ -17,8 +17,8 @@ use Rattle.format.specs.declared.Reading.the-variants.{Valid}
 use Rattle.format.specs.Decoding.{automatonOf, decoded, isFinal}
 use Rattle.format.specs.Encoding.{flagByte, headerBytes}
 use Rattle.format.specs.Reading.{flagBytes, readingOf}
-use Rattle.files.proofs.ValidLaws.{file-seen, valid-decoded, valid-sizes}
-use Rattle.files.proofs.CanonicalLaws.{flags-same}
+use Rattle.file_laws.proofs.ValidLaws.{file-seen, valid-decoded, valid-sizes}
+use Rattle.file_laws.proofs.CanonicalLaws.{flags-same}
 use Rattle.writing.specs.Placing.{Appended}
 use Rattle.writing.proofs.Placed.{appended-length}
 use Rattle.joining.proofs.FileLaws.{header-length}

@@ -12,7 +12,7 @@ use Rattle.automata.specs.Joins.{arcFrom, clearing, moved, movedArc, movedOp, e
 use Rattle.automata.specs.Lists.{countFrom}
 use Rattle.automata.specs.Unfolding.{readZero}
 use Rattle.format.specs.declared.Counts.{Counts}
-use Rattle.files.proofs.Fitting.{ArcFits, OpFits}
+use Rattle.file_laws.proofs.Fitting.{ArcFits, OpFits}
 use Rattle.automata.specs.Lists.{Each}
 use Rattle.writing.proofs.ArcBytes.{cleared, cleared-count, clearing-few, clearing-more, ops-unmoved}
 use Rattle.joining.proofs.EachLaws.{each-imply, each-map}

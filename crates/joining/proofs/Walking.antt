@@ -17,13 +17,13 @@ use Rattle.format.specs.Encoding.{arcBytes, arcsBytes}
 use Rattle.format.specs.Decoding.{arcOf, arcsOf, automatonOf, letterOf, opsOf}
 use Rattle.format.specs.Reading.{arcSize, arcTests, arcsTests, firstArc, readingOf}
 use Rattle.format.specs.Placed.{whole}
-use Rattle.files.proofs.Fitting.{ArcFits}
+use Rattle.file_laws.proofs.Fitting.{ArcFits}
 use Rattle.automata.proofs.ListLaws.{each-split}
 use Rattle.format.proofs.Tests.{Hold}
-use Rattle.files.proofs.ArcLaws.{arc-fits, arcs-seen, ops-count}
+use Rattle.file_laws.proofs.ArcLaws.{arc-fits, arcs-seen, ops-count}
 use Rattle.format.proofs.Seen.{arc-seen}
 use Rattle.format.proofs.Steps.{down, none-left}
-use Rattle.files.proofs.ValidLaws.{file-seen, valid-arcs, valid-ranges}
+use Rattle.file_laws.proofs.ValidLaws.{file-seen, valid-arcs, valid-ranges}
 use Rattle.writing.proofs.ArcBytes.{arc-length}
 use Rattle.joining.proofs.FinalLaws.{returning}
 

@@ -18,7 +18,7 @@ use Rattle.format.specs.declared.Counts.{Counts}
 use Rattle.format.specs.declared.Reading.{Reading}
 use Rattle.format.specs.declared.Reading.the-variants.{Valid}
 use Rattle.format.proofs.Steps.{letters-length}
-use Rattle.files.proofs.ValidLaws.{valid-decoded, valid-lies, valid-ranges, valid-wellFormed}
+use Rattle.file_laws.proofs.ValidLaws.{valid-decoded, valid-lies, valid-ranges, valid-wellFormed}
 use Rattle.memory.specs.Frame.{Kept}
 use Rattle.sets.specs.Rows.{Closure, Link, related}
 use Rattle.table.specs.FileSteps.{Findable}

@@ -21,7 +21,7 @@ use Rattle.format.specs.declared.Reading.the-variants.{Refused as Fault, Valid}
 use Rattle.table.specs.Membership.{Told, judged, membershipOf, told, unlessFault}
 use Rattle.table.specs.declared.Membership.{Membership}
 use Rattle.table.specs.declared.Membership.the-variants.{Accepted, Refused, Rejected}
-use Rattle.files.proofs.Promise.{number-range, valid-automaton}
+use Rattle.file_laws.proofs.Promise.{number-range, valid-automaton}
 
 -- nothing is refused: the working words are enough, the file has no fault, and its automaton reaches at most 256 configurations
 pub record Answered (file : List ℕ) (words : ℕ) : Type 0 where

@@ -22,7 +22,7 @@ use Rattle.format.specs.declared.Reading.the-variants.{Valid}
 use Rattle.format.specs.Decoding.{automatonOf, decoded, isFinal}
 use Rattle.format.specs.Encoding.{arcsBytes, bytesOf, flagByte, headerBytes}
 use Rattle.format.specs.Reading.{firstArc, flagBytes, readingOf}
-use Rattle.files.proofs.ValidLaws.{file-seen, valid-arcs, valid-decoded, valid-lies, valid-ranges, valid-sizes, valid-wellFormed}
+use Rattle.file_laws.proofs.ValidLaws.{file-seen, valid-arcs, valid-decoded, valid-lies, valid-ranges, valid-sizes, valid-wellFormed}
 use Rattle.sets.specs.Sets.{inSet, view}
 use Rattle.sets.proofs.Laws.{length-view}
 use Rattle.table.specs.Finals.{flagPlace, isFinalIn, stateIn}

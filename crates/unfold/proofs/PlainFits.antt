@@ -17,7 +17,7 @@ use Rattle.automata.proofs.UnfoldingLaws.{first-configuration, within}
 use Rattle.format.specs.Encoding.{sizes}
 use Rattle.format.specs.Limits.{Fits, Ranges}
 use Rattle.format.specs.declared.Counts.{Counts}
-use Rattle.files.proofs.Fitting.{ArcFits, fits-by}
+use Rattle.file_laws.proofs.Fitting.{ArcFits, fits-by}
 use Rattle.unfold.specs.Listed.{plainCounts}
 
 -- a plain arc between k configurations, with one of n letters

@@ -21,8 +21,8 @@ use Rattle.format.specs.declared.Reading.the-variants.{Refused as Fault, Valid}
 use Rattle.format.specs.Decoding.{automatonOf}
 use Rattle.format.specs.Encoding.{bytesOf, sizes}
 use Rattle.format.specs.Reading.{numberOf, readingOf}
-use Rattle.files.proofs.Promise.{number-range, round-trip}
-use Rattle.files.proofs.ValidLaws.{valid-fits}
+use Rattle.file_laws.proofs.Promise.{number-range, round-trip}
+use Rattle.file_laws.proofs.ValidLaws.{valid-fits}
 use Rattle.writing.specs.declared.Written.{Written}
 use Rattle.writing.specs.declared.Written.the-variants.{Bytes, Refused}
 use Rattle.writing.specs.Answers.{outputOf}

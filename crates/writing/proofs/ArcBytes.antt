@@ -15,9 +15,9 @@ use Rattle.automata.specs.Joins.{movedRegister, movedOp, clearing}
 use Rattle.format.specs.Decoding.{opOf, opsOf}
 use Rattle.format.specs.Encoding.{opBytes, opsBytes, arcBytes}
 use Rattle.format.proofs.Steps.{down, none-left}
-use Rattle.files.proofs.ArcLaws.{ops-count}
-use Rattle.files.proofs.EncodingLaws.{ops-length}
-use Rattle.files.proofs.CanonicalLaws.{letter-same}
+use Rattle.file_laws.proofs.ArcLaws.{ops-count}
+use Rattle.file_laws.proofs.EncodingLaws.{ops-length}
+use Rattle.file_laws.proofs.CanonicalLaws.{letter-same}
 use Rattle.writing.specs.declared.arcs.Fields.{Fields}
 use Rattle.writing.specs.Placing.{Appended}
 use Rattle.writing.specs.Arcs.{arcWith}

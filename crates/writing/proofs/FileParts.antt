@@ -10,7 +10,7 @@ use Rattle.format.specs.declared.Reading.the-variants.{Valid}
 use Rattle.format.specs.Decoding.{automatonOf, decoded}
 use Rattle.format.specs.Encoding.{arcBytes, arcsBytes, bytesOf, flagByte, headerBytes, sizes}
 use Rattle.format.specs.Reading.{letterBytes, readingOf}
-use Rattle.files.proofs.ValidLaws.{valid-decoded}
+use Rattle.file_laws.proofs.ValidLaws.{valid-decoded}
 use Rattle.writing.specs.Placing.{Appended}
 
 pub header-length : (c : Counts) → length (headerBytes c) ≡ 12

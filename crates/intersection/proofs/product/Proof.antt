@@ -9,13 +9,13 @@ use Rattle.automata.specs.Joins.{intersection}
 use Rattle.format.specs.declared.Counts.{Counts}
 use Rattle.format.specs.Decoding.{automatonOf}
 use Rattle.format.specs.Encoding.{sizes}
-use Rattle.files.proofs.ValidLaws.{valid-ranges, valid-sizes, valid-fits}
+use Rattle.file_laws.proofs.ValidLaws.{valid-ranges, valid-sizes, valid-fits}
 use Rattle.joining.specs.Joining.{writtenOf}
 use Rattle.joining.proofs.FinalLaws.{valid-lengths}
 use Rattle.joining.proofs.AnswerLaws.{decided-written, file-written, written-bytes}
 use Rattle.intersection.proofs.IntersectionBytes.{intersection-counts}
 use Rattle.intersection.proofs.IntersectionFits.{intersection-fits}
-use Rattle.files.proofs.EncodingLaws.{bytes-length}
+use Rattle.file_laws.proofs.EncodingLaws.{bytes-length}
 use Rattle.intersection.proofs.ManyOps.{many-refused, none-many}
 use Rattle.intersection.proofs.product.Statement.{statement}
 use Rattle.intersection.proofs.product.Tie as tie

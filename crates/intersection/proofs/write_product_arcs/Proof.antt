@@ -8,7 +8,7 @@ use Rattle.automata.specs.Joins.{intersection}
 use Rattle.format.specs.declared.Counts.{Counts}
 use Rattle.format.specs.Decoding.{automatonOf}
 use Rattle.format.specs.Encoding.{arcsBytes}
-use Rattle.files.proofs.ValidLaws.{valid-ranges, valid-sizes}
+use Rattle.file_laws.proofs.ValidLaws.{valid-ranges, valid-sizes}
 use Rattle.writing.proofs.Placed.{written-then, appended-ends}
 use Rattle.joining.proofs.FinalLaws.{valid-lengths}
 use Rattle.intersection.specs.Pairing.{jointWith, emptyWith, besideArc}

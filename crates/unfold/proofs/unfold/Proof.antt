@@ -9,7 +9,7 @@ use Rattle.explore.specs.Explores.{Explores}
 use Rattle.format.specs.declared.Reading.the-variants.{Valid}
 use Rattle.format.specs.Decoding.{automatonOf}
 use Rattle.format.specs.Reading.{numberOf, readingOf}
-use Rattle.files.proofs.ValidLaws.{valid-arcs}
+use Rattle.file_laws.proofs.ValidLaws.{valid-arcs}
 use Rattle.table.proofs.Accepting.{valid-walkable}
 use Rattle.writing.specs.declared.Written.the-variants.{Refused}
 use Rattle.unfold.proofs.Answering.{answer-beyond, answer-read, answer-result, answer-short}

@@ -9,7 +9,7 @@ use Rattle.explore.specs.Explores.{exploredOf}
 use Rattle.explore.specs.declared.Explored.the-variants.{Tables}
 use Rattle.format.specs.Decoding.{automatonOf}
 use Rattle.format.proofs.Steps.{letters-length}
-use Rattle.files.proofs.ValidLaws.{valid-letters, valid-wellFormed}
+use Rattle.file_laws.proofs.ValidLaws.{valid-letters, valid-wellFormed}
 use Rattle.joining.proofs.FileLaws.{lent-letters, valid-alphabet}
 use Rattle.pairs.specs.Map.{firstBlock, secondBlock}
 use Rattle.table.specs.Words.{Ready}

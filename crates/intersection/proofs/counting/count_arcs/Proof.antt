@@ -6,7 +6,7 @@ use borrow.Author.Needs.{needs}
 use lib.ListN.{length-map}
 use Rattle.automata.specs.Joins.{arcLeft, arcRight, movedOp}
 use Rattle.format.specs.Decoding.{automatonOf}
-use Rattle.files.proofs.ValidLaws.{valid-ranges}
+use Rattle.file_laws.proofs.ValidLaws.{valid-ranges}
 use Rattle.joining.proofs.FinalLaws.{valid-lengths}
 use Rattle.intersection.specs.Pairing.{jointWith, emptyWith}
 use Rattle.intersection.proofs.Uncounted.{tallied-append}

@@ -9,7 +9,7 @@ use lib.ListN.{length, drop, getD}
 use Rattle.automata.specs.Automaton.{Arc}
 use Rattle.automata.specs.Lists.{countFrom}
 use Rattle.format.specs.Decoding.{arcOf, arcsOf}
-use Rattle.files.proofs.ValidLaws.{valid-arcs, valid-ranges}
+use Rattle.file_laws.proofs.ValidLaws.{valid-arcs, valid-ranges}
 use Rattle.joining.proofs.Walking.{ArcHere, Walk, walk-here, walk-on, walk-start}
 use Rattle.intersection.specs.Pairing.{emptyWith}
 use Rattle.intersection.proofs.Uncounted.{Uncounted, uncounted-all, uncounted-less, uncounted-none, all-tallied}

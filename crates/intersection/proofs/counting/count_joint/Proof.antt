@@ -6,7 +6,7 @@ use native.Mathlib.Omega.{arith}
 use lib.ListN.{drop, length}
 use Rattle.automata.specs.Joins.{arcBoth}
 use Rattle.format.specs.Decoding.{arcOf, arcsOf, automatonOf, letterOf}
-use Rattle.files.proofs.ValidLaws.{valid-arcs, valid-ranges}
+use Rattle.file_laws.proofs.ValidLaws.{valid-arcs, valid-ranges}
 use Rattle.joining.proofs.Walking.{ArcHere, Walk, walk-here, walk-on, walk-start}
 use Rattle.intersection.specs.Pairing.{jointWith}
 use Rattle.intersection.proofs.Uncounted.{Uncounted, uncounted-all, uncounted-less, uncounted-none, none-tallied, one-tallied}

@@ -4,7 +4,7 @@ use Prim.Native.Nat.{ℕ, _-_, _*_, _≤_}
 use native.Mathlib.Omega.{arith}
 use lib.ListN.{drop}
 use Rattle.format.specs.Decoding.{arcOf, arcsOf, automatonOf}
-use Rattle.files.proofs.ValidLaws.{valid-arcs, valid-ranges}
+use Rattle.file_laws.proofs.ValidLaws.{valid-arcs, valid-ranges}
 use Rattle.joining.proofs.Walking.{ArcHere, Walk, walk-here, walk-on, walk-start}
 use Rattle.intersection.specs.Pairing.{jointWith}
 use Rattle.intersection.proofs.Uncounted.{Uncounted, uncounted-all, uncounted-less, uncounted-none}

@@ -9,7 +9,7 @@ use Rattle.automata.specs.Joins.{bothFinal}
 use Rattle.format.specs.Reading.{flagBytes}
 use Rattle.format.specs.Decoding.{automatonOf}
 use Rattle.format.specs.Encoding.{flagByte}
-use Rattle.files.proofs.ValidLaws.{valid-ranges, file-seen}
+use Rattle.file_laws.proofs.ValidLaws.{valid-ranges, file-seen}
 use Rattle.writing.proofs.Placed.{Left, left-all, left-fits, left-less, left-none}
 use Rattle.joining.proofs.FinalLaws.{valid-finals, valid-lengths, valid-flags}
 use Rattle.intersection.proofs.FlagLaws.{flagsFrom, flags-none, flag-at, flags-final, flags-other, flags-length}

@@ -6,7 +6,7 @@ use lib.ListN.{drop}
 use Rattle.format.specs.Reading.{arcSize, firstArc}
 use Rattle.format.specs.Decoding.{arcOf, arcsOf, automatonOf}
 use Rattle.format.specs.Encoding.{arcsBytes}
-use Rattle.files.proofs.ValidLaws.{valid-arcs, valid-ranges}
+use Rattle.file_laws.proofs.ValidLaws.{valid-arcs, valid-ranges}
 use Rattle.writing.proofs.Placed.{Left, left-all, left-fits, left-less, left-none}
 use Rattle.joining.proofs.Walking.{ArcHere, Walk, walk-here, walk-on, walk-start, arcs-append}
 use Rattle.intersection.specs.Pairing.{jointWith}

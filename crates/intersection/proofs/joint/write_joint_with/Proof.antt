@@ -9,7 +9,7 @@ use Rattle.automata.specs.Joins.{arcBoth}
 use Rattle.format.specs.Reading.{arcSize, firstArc}
 use Rattle.format.specs.Decoding.{arcOf, arcsOf, automatonOf, letterOf}
 use Rattle.format.specs.Encoding.{arcBytes, arcsBytes}
-use Rattle.files.proofs.ValidLaws.{valid-arcs, valid-ranges}
+use Rattle.file_laws.proofs.ValidLaws.{valid-arcs, valid-ranges}
 use Rattle.writing.proofs.Placed.{Left, left-all, left-fits, left-less, left-none}
 use Rattle.joining.proofs.Walking.{ArcHere, Walk, walk-here, walk-on, walk-start}
 use Rattle.intersection.specs.Pairing.{jointWith}

@@ -9,7 +9,7 @@ use Rattle.automata.specs.Joins.{clearing, closure, finalStates}
 use Rattle.format.specs.declared.Counts.{Counts}
 use Rattle.format.specs.Decoding.{automatonOf}
 use Rattle.format.specs.Encoding.{sizes}
-use Rattle.files.proofs.ValidLaws.{valid-fits, valid-ranges, valid-sizes}
+use Rattle.file_laws.proofs.ValidLaws.{valid-fits, valid-ranges, valid-sizes}
 use Rattle.joining.specs.Joining.{writtenOf}
 use Rattle.join.proofs.closures.repeat.Statement.{statement}
 use Rattle.join.proofs.JoinedBytes.{closure-counts, closure-length}

@@ -8,7 +8,7 @@ use Rattle.automata.proofs.SearchLaws.{at}
 use Rattle.format.specs.declared.Counts.{Counts}
 use Rattle.format.specs.Encoding.{arcBytes, arcsBytes}
 use Rattle.format.specs.Decoding.{automatonOf}
-use Rattle.files.proofs.ValidLaws.{valid-ranges, valid-sizes}
+use Rattle.file_laws.proofs.ValidLaws.{valid-ranges, valid-sizes}
 use Rattle.writing.proofs.Placed.{appended-ends, written-then}
 use Rattle.join.proofs.closures.write_closure_arcs.Statement.{statement}
 use Rattle.join.proofs.JoinedBytes.{closure-arc-parts}

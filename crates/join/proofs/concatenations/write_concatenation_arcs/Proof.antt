@@ -9,7 +9,7 @@ use Rattle.automata.proofs.SearchLaws.{at}
 use Rattle.format.specs.declared.Counts.{Counts}
 use Rattle.format.specs.Decoding.{automatonOf}
 use Rattle.format.specs.Encoding.{arcsBytes}
-use Rattle.files.proofs.ValidLaws.{valid-ranges, valid-sizes}
+use Rattle.file_laws.proofs.ValidLaws.{valid-ranges, valid-sizes}
 use Rattle.writing.proofs.Placed.{appended-ends, written-then}
 use Rattle.joining.proofs.FinalLaws.{returning}
 use Rattle.joining.proofs.Walking.{arcs-moved-length}

@@ -9,7 +9,7 @@ use Rattle.automata.proofs.SearchLaws.{at}
 use Rattle.format.specs.declared.Counts.{Counts}
 use Rattle.format.specs.Decoding.{automatonOf}
 use Rattle.format.specs.Encoding.{arcsBytes, arcBytes}
-use Rattle.files.proofs.ValidLaws.{valid-ranges, valid-sizes}
+use Rattle.file_laws.proofs.ValidLaws.{valid-ranges, valid-sizes}
 use Rattle.writing.proofs.Placed.{written-then, appended-ends}
 use Rattle.join.proofs.unions.write_union_arcs.Statement.{statement}
 use Rattle.joining.proofs.Walking.{entry-length}

@@ -1,5 +1,5 @@
 use native.Mathlib.Omega.{arith}
-use Rattle.files.proofs.ValidLaws.{file-seen, valid-longest, valid-ranges}
+use Rattle.file_laws.proofs.ValidLaws.{file-seen, valid-longest, valid-ranges}
 use Rattle.joining.proofs.answer.arcs_size.Statement.{statement}
 use Rattle.joining.proofs.Walking.{arcs-length}
 use Rattle.joining.proofs.answer.arcs_size.Tie as tie

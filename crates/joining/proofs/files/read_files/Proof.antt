@@ -4,7 +4,7 @@ use borrow.Author.Needs.{needs}
 use borrow.Author.Tests.{not-false, not-true}
 use Rattle.format.specs.declared.Reading.the-variants.{Valid}
 use Rattle.format.specs.Reading.{readingOf}
-use Rattle.files.proofs.ValidLaws.{valid-letters}
+use Rattle.file_laws.proofs.ValidLaws.{valid-letters}
 use Rattle.joining.specs.Joining.{filesOf, paired}
 use Rattle.joining.proofs.files.read_files.Statement.{statement}
 use Rattle.joining.proofs.FileLaws.{lent-letters, valid-files}

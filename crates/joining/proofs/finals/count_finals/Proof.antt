@@ -4,7 +4,7 @@ use borrow.Author.Needs.{needs}
 use lib.ListN.{length}
 use Rattle.automata.specs.Joins.{finalStates}
 use Rattle.format.specs.Decoding.{automatonOf}
-use Rattle.files.proofs.ValidLaws.{file-seen, valid-ranges}
+use Rattle.file_laws.proofs.ValidLaws.{file-seen, valid-ranges}
 use Rattle.joining.proofs.finals.count_finals.Statement.{statement}
 use Rattle.joining.proofs.FinalLaws.{final-count, lent-finals, valid-lengths}
 use Rattle.joining.proofs.finals.count_finals.Tie as tie

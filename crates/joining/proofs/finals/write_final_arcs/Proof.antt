@@ -2,7 +2,7 @@ use native.Mathlib.Omega.{arith}
 use borrow.Author.Needs.{needs}
 use lib.ListN.{length-drop, length-take}
 use Rattle.automata.proofs.SearchLaws.{at}
-use Rattle.files.proofs.ValidLaws.{file-seen, valid-ranges}
+use Rattle.file_laws.proofs.ValidLaws.{file-seen, valid-ranges}
 use Rattle.joining.proofs.finals.write_final_arcs.Statement.{statement}
 use Rattle.joining.proofs.FinalLaws.{lent-finals}
 use Rattle.joining.proofs.finals.write_final_arcs.Tie as tie

@@ -1,6 +1,6 @@
 use native.Mathlib.Omega.{arith}
 use borrow.Author.Needs.{needs}
-use Rattle.files.proofs.ValidLaws.{file-seen, valid-ranges}
+use Rattle.file_laws.proofs.ValidLaws.{file-seen, valid-ranges}
 use Rattle.joining.proofs.front.write_flags.Statement.{statement}
 use Rattle.joining.proofs.FinalLaws.{lent-flags, valid-flags}
 use Rattle.joining.proofs.front.write_flags.Tie as tie

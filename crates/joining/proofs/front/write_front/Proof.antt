@@ -1,7 +1,7 @@
 use native.Mathlib.Omega.{arith}
 use borrow.Author.Needs.{needs}
 use lib.ListN.{length-drop, length-take}
-use Rattle.files.proofs.ValidLaws.{file-seen}
+use Rattle.file_laws.proofs.ValidLaws.{file-seen}
 use Rattle.writing.proofs.Placed.{appended-length, written-then}
 use Rattle.joining.proofs.front.write_front.Statement.{statement}
 use Rattle.joining.proofs.FileLaws.{lent-letters, valid-alphabet, header-length}

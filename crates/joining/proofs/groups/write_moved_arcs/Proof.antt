@@ -7,7 +7,7 @@ use Rattle.automata.specs.Joins.{movedArc}
 use Rattle.format.specs.Encoding.{arcsBytes, arcBytes}
 use Rattle.format.specs.Decoding.{arcsOf, arcOf}
 use Rattle.format.specs.Reading.{arcSize, firstArc}
-use Rattle.files.proofs.ValidLaws.{valid-arcs, valid-ranges}
+use Rattle.file_laws.proofs.ValidLaws.{valid-arcs, valid-ranges}
 use Rattle.writing.proofs.Placed.{Left, left-all, left-fits, left-less, left-none}
 use Rattle.joining.proofs.groups.write_moved_arcs.Statement.{statement}
 use Rattle.joining.proofs.Walking.{Walk, walk-start, ArcHere, mapped-next, mapped-none, moved-length, read-length, walk-here, walk-on}

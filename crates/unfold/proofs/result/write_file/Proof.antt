@@ -3,7 +3,7 @@ use Prim.Native.Nat.{_*_, _+_, _≤_}
 use native.Mathlib.Omega.{arith}
 use borrow.Author.Needs.{needs}
 use lib.ListN.{length}
-use Rattle.files.proofs.ValidLaws.{valid-ranges}
+use Rattle.file_laws.proofs.ValidLaws.{valid-ranges}
 use Rattle.writing.proofs.Placed.{appended-length, written-then}
 use Rattle.unfold.specs.Listed.{plainCounts}
 use Rattle.unfold.proofs.Explored.{arcs-length, flags-size, flags-there, front-ends, known, result-length, result-parts, some-known, starts-are}

@@ -2,7 +2,7 @@
 use native.Mathlib.Omega.{arith}
 use borrow.Author.Needs.{needs}
 use lib.ListN.{length-drop, length-take}
-use Rattle.files.proofs.ValidLaws.{file-seen, valid-ranges}
+use Rattle.file_laws.proofs.ValidLaws.{file-seen, valid-ranges}
 use Rattle.writing.proofs.FileParts.{header-length, lent-letters, valid-alphabet}
 use Rattle.writing.proofs.Placed.{appended-length, written-then}
 use Rattle.unfold.proofs.result.write_front.Statement.{statement}

@@ -4,7 +4,7 @@ use native.Mathlib.Omega.{arith}
 use borrow.Author.Needs.{needs}
 use lib.ListN.{length}
 use Rattle.format.specs.Decoding.{automatonOf}
-use Rattle.files.proofs.ValidLaws.{valid-ranges}
+use Rattle.file_laws.proofs.ValidLaws.{valid-ranges}
 use Rattle.writing.specs.declared.Written.the-variants.{Bytes}
 use Rattle.writing.proofs.FileParts.{file-written}
 use Rattle.unfold.proofs.Answering.{result-bytes, result-many, result-short}

@@ -6,8 +6,8 @@ use lib.ListN.{length, length-append}
 use Rattle.automata.specs.Joins.{movedOp}
 use Rattle.format.specs.Decoding.{opsOf}
 use Rattle.format.specs.Encoding.{opsBytes}
-use Rattle.files.proofs.ArcLaws.{ops-count}
-use Rattle.files.proofs.EncodingLaws.{ops-length}
+use Rattle.file_laws.proofs.ArcLaws.{ops-count}
+use Rattle.file_laws.proofs.EncodingLaws.{ops-length}
 use Rattle.writing.proofs.Placed.{then-tail}
 use Rattle.writing.proofs.ArcBytes.{ops-unmoved, moved-ops-count, moved-ops-length, ops-append, arc-written}
 use borrow.Author.Needs.{needs}

@@ -20,8 +20,8 @@ use Rattle.automata.specs.Lists.{Each}
 use Rattle.automata.proofs.ListLaws.{each-join}
 use Rattle.format.proofs.Tests.{Holds, Hold}
 use Rattle.format.proofs.Seen.{HeaderSeen}
-use Rattle.files.proofs.Fitting.{OpFits, ArcFits, arcs-fit}
-use Rattle.files.proofs.ValidLaws.{seen-file}
+use Rattle.file_laws.proofs.Fitting.{OpFits, ArcFits, arcs-fit}
+use Rattle.file_laws.proofs.ValidLaws.{seen-file}
 
 -- ---- an operation
 -- the two halves of its first byte

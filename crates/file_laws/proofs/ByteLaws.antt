@@ -11,8 +11,8 @@ use Rattle.format.specs.Encoding.{sizes, headerBytes, flagByte, opsBytes, lette
 use Rattle.format.specs.Limits.{Ranges, Fits, Bytes}
 use Rattle.automata.specs.Lists.{Each}
 use Rattle.automata.proofs.ListLaws.{each-join}
-use Rattle.files.proofs.Fitting.{OpFits, ArcFits, arcs-fit}
-use Rattle.files.proofs.EncodingLaws.{few-kinds}
+use Rattle.file_laws.proofs.Fitting.{OpFits, ArcFits, arcs-fit}
+use Rattle.file_laws.proofs.EncodingLaws.{few-kinds}
 
 abbrev Byte : ℕ → Type 0
 Byte b = b < 256

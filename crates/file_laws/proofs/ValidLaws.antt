@@ -20,8 +20,8 @@ use Rattle.automata.proofs.ListLaws.{each-join}
 use Rattle.format.proofs.Tests.{Holds, Hold, valid-hold, hold-valid}
 use Rattle.format.proofs.Steps.{letters-length}
 use Rattle.format.proofs.Seen.{HeaderSeen, header-seen, seen-header}
-use Rattle.files.proofs.Fitting.{ArcFits, fits-by}
-use Rattle.files.proofs.ArcLaws.{ArcsSeen, arcs-seen, arcs-count}
+use Rattle.file_laws.proofs.Fitting.{ArcFits, fits-by}
+use Rattle.file_laws.proofs.ArcLaws.{ArcsSeen, arcs-seen, arcs-count}
 
 -- ---- a file is valid exactly if all this is so
 pub record FileSeen (c : Counts) (s : List ℕ) : Type 0 where

@@ -17,8 +17,8 @@ use Rattle.format.specs.Limits.{Bytes}
 use Rattle.automata.proofs.ListLaws.{each-split}
 use Rattle.format.proofs.Tests.{and-both, all-hold, Holds, Hold}
 use Rattle.format.proofs.Seen.{HeaderSeen, ArcSeen, arc-seen}
-use Rattle.files.proofs.ArcLaws.{op-kind, ops-count}
-use Rattle.files.proofs.ValidLaws.{FileSeen, file-seen, decoded-sizes}
+use Rattle.file_laws.proofs.ArcLaws.{op-kind, ops-count}
+use Rattle.file_laws.proofs.ValidLaws.{FileSeen, file-seen, decoded-sizes}
 
 -- ---- an operation
 op-same : (c : Counts) (x y : ℕ) → wellOp c x y ≡ true → opBytes (opOf x y) ≡ x ∷ y ∷ []

@@ -16,7 +16,7 @@ use Rattle.format.specs.Limits.{Ranges}
 use Rattle.automata.proofs.ListLaws.{each-split}
 use Rattle.format.proofs.Tests.{Holds, Hold, hold-valid}
 use Rattle.format.proofs.Seen.{HeaderSeen, seen-header, after-header, ArcSeen, arc-seen}
-use Rattle.files.proofs.ValidLaws.{FileSeen, file-seen}
+use Rattle.file_laws.proofs.ValidLaws.{FileSeen, file-seen}
 
 module _ (t : List ℕ) (more : 0 < length t) where
   -- ---- what stands in front of t is the same

@@ -8,7 +8,7 @@ use Rattle.format.specs.declared.Reading.the-variants.{Valid, Refused}
 use Rattle.format.specs.Reading.{readingOf}
 use Rattle.format.specs.Decoding.{automatonOf}
 use Rattle.format.specs.Encoding.{bytesOf}
-use Rattle.files.specs.Examples.{fileT}
+use Rattle.file_laws.specs.Examples.{fileT}
 
 pub valid-T : readingOf fileT ≡ Valid (record { letters = 3; states = 3; registers = 2; symbols = 3; arcs = 5 })
 unfolding readingOf

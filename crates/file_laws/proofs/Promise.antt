@@ -17,11 +17,11 @@ use Rattle.format.specs.Decoding.{automatonOf}
 use Rattle.format.specs.Encoding.{sizes, bytesOf}
 use Rattle.format.specs.Limits.{Fits, Bytes}
 use Rattle.format.proofs.Tests.{and-both}
-use Rattle.files.proofs.RefusalLaws.{FirstFails, refused-first, first-refused, refused-number, Known, tests-known}
-use Rattle.files.proofs.FrontLaws.{shorter-refused, longer-refused}
-use Rattle.files.proofs.ValidLaws.{valid-sizes, valid-fits, valid-wellFormed}
-use Rattle.files.proofs.EncodingLaws.{bytes-valid, bytes-back}
-use Rattle.files.proofs.CanonicalLaws.{valid-bytes}
+use Rattle.file_laws.proofs.RefusalLaws.{FirstFails, refused-first, first-refused, refused-number, Known, tests-known}
+use Rattle.file_laws.proofs.FrontLaws.{shorter-refused, longer-refused}
+use Rattle.file_laws.proofs.ValidLaws.{valid-sizes, valid-fits, valid-wellFormed}
+use Rattle.file_laws.proofs.EncodingLaws.{bytes-valid, bytes-back}
+use Rattle.file_laws.proofs.CanonicalLaws.{valid-bytes}
 
 -- A file is valid, with the counts c, exactly if it is the bytes of an automaton within the limits that has these counts.
 pub valid-exactly : (s : List ℕ) (c : Counts) → Bytes s → (readingOf s ≡ Valid c) ↔ ((x : Automaton) × Fits x × (sizes x ≡ c) × (bytesOf x ≡ s))

@@ -18,7 +18,7 @@ use Rattle.automata.specs.Lists.{Each}
 use Rattle.automata.proofs.ListLaws.{each-split}
 use Rattle.format.proofs.Tests.{and-both, all-hold, Holds, Hold}
 use Rattle.format.proofs.Seen.{ArcSeen, arc-seen}
-use Rattle.files.proofs.Fitting.{OpFits, ArcFits}
+use Rattle.file_laws.proofs.Fitting.{OpFits, ArcFits}
 
 -- ---- an operation
 read-keeps : (r y : ℕ) → (r ≡ 0 → y ≡ 0) → KeepsZero (reads r y)
