@@ -1,0 +1,24 @@
+-- `ra_close` meets its contract.
+use mathlib.Core.Path.{_∙_, ap}
+use Rattle.registered_automata.specs.Results.{writtenFields}
+use borrow.Author.Needs.{needs}
+use Rattle.registered_automata.proofs.ra_close.Statement.{statement}
+use Rattle.registered_automata.proofs.ra_close.Tie as tie
+
+close-requires : tie.Need-close-requires
+close-requires c κs = search needs
+
+as-written-requires : tie.Need-as-written-requires
+as-written-requires c κs = search needs
+
+same-length : tie.Need-same-length
+same-length c = search needs
+
+returns : tie.Need-returns
+returns c =
+    let u = c .before .before .before in
+    let told = u .close .ensures in
+    (c .as-written .ensures ∙ ap writtenFields (told .0), rw (← told .0) (told .1))
+
+pub ra-close-spec : {M : Type 1} → statement M
+ra-close-spec = tie.close (tie.spec close-requires as-written-requires same-length returns)

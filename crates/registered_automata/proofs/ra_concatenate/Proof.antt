@@ -1,0 +1,25 @@
+-- `ra_concatenate` meets its contract.
+use mathlib.Core.Path.{_∙_, ap}
+use Rattle.registered_automata.specs.Results.{writtenFields}
+use borrow.Author.Needs.{needs}
+use Rattle.registered_automata.proofs.ra_concatenate.Statement.{statement}
+use Rattle.registered_automata.proofs.ra_concatenate.Tie as tie
+
+concatenate-requires : tie.Need-concatenate-requires
+concatenate-requires c κs = search needs
+
+as-written-requires : tie.Need-as-written-requires
+as-written-requires c κs = search needs
+
+same-length : tie.Need-same-length
+same-length c = search needs
+
+returns : tie.Need-returns
+returns c =
+    let u = c .before .before .before in
+    let told = u .concatenate .ensures in
+    (c .as-written .ensures ∙ ap writtenFields (told .0), rw (← told .0) (told .1))
+
+pub ra-concatenate-spec : {M : Type 1} → statement M
+ra-concatenate-spec =
+    tie.close (tie.spec concatenate-requires as-written-requires same-length returns)

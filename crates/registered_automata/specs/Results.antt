@@ -1,0 +1,25 @@
+-- Results: the struct that tells each answer. A number of 0 says that nothing was refused; a refusal leaves 0 in every field but its
+-- number and the automaton at fault.
+use Rattle.format.specs.declared.Reading.{Reading as ReadingAnswer}
+use Rattle.format.specs.declared.Reading.the-variants.{Valid, Refused as Fault}
+use Rattle.table.specs.declared.Membership.{Membership as MembershipAnswer}
+use Rattle.table.specs.declared.Membership.the-variants.{Accepted, Rejected, Refused}
+use Rattle.writing.specs.declared.Written.{Written as WrittenAnswer}
+use Rattle.writing.specs.declared.Written.the-variants.{Bytes, Refused as Unwritten}
+use Rattle.registered_automata.specs.declared.results.Reading.{Reading}
+use Rattle.registered_automata.specs.declared.results.Membership.{Membership}
+use Rattle.registered_automata.specs.declared.results.Written.{Written}
+
+abbrev pub readingFields : ReadingAnswer → Reading
+readingFields (Valid c) =
+    record { letters = c .letters; states = c .states; registers = c .registers; symbols = c .symbols; arcs = c .arcs; number = 0 }
+readingFields (Fault n) = record { letters = 0; states = 0; registers = 0; symbols = 0; arcs = 0; number = n }
+
+abbrev pub membershipFields : MembershipAnswer → Membership
+membershipFields (Accepted n) = record { live = n; number = 0; automaton = 0; accepted = 1 }
+membershipFields (Rejected n) = record { live = n; number = 0; automaton = 0; accepted = 0 }
+membershipFields (Refused n b) = record { live = 0; number = n; automaton = b; accepted = 0 }
+
+abbrev pub writtenFields : WrittenAnswer → Written
+writtenFields (Bytes n) = record { length = n; number = 0; automaton = 0 }
+writtenFields (Unwritten n b) = record { length = 0; number = n; automaton = b }
