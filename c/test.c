@@ -1,0 +1,341 @@
+/* Calls each function of the static library on four small automata, and checks every answer and every lent byte.
+ * Prints what it did. The exit status is 1 where an answer is another than the expected one. */
+#include "registered_automata.h"
+
+#include <stdio.h>
+#include <string.h>
+
+/* ---- the automata */
+
+/* T: letters c e m; c or e is written to register 1, m may follow, and only the letter that was written leads to the end. */
+static const uint8_t T[] = {
+    0x4D, 0x4C, 0x42, 1, 0, 3, 3, 0, 2, 3, 5, 0, 'c', 'e', 'm', 0, 0, 1,
+    0, 0, 1, 1, 0x11, 1,
+    0, 1, 1, 1, 0x11, 2,
+    1, 2, 1, 1, 0x00, 0,
+    1, 0, 2, 1, 0x01, 1,
+    1, 1, 2, 1, 0x01, 2,
+};
+
+/* V: T without its last arc. */
+static const uint8_t V[] = {
+    0x4D, 0x4C, 0x42, 1, 0, 3, 3, 0, 2, 3, 4, 0, 'c', 'e', 'm', 0, 0, 1,
+    0, 0, 1, 1, 0x11, 1,
+    0, 1, 1, 1, 0x11, 2,
+    1, 2, 1, 1, 0x00, 0,
+    1, 0, 2, 1, 0x01, 1,
+};
+
+/* K: one c, where register 1 holds 0, which is then replaced by 1. */
+static const uint8_t K[] = {
+    0x4D, 0x4C, 0x42, 1, 0, 1, 2, 0, 2, 2, 1, 0, 'c', 0, 1,
+    0, 0, 1, 2, 0x01, 0, 0x11, 1,
+};
+
+/* S: any number of a, then one b. */
+static const uint8_t S[] = {
+    0x4D, 0x4C, 0x42, 1, 0, 2, 2, 0, 1, 1, 2, 0, 'a', 'b', 0, 1,
+    0, 0, 0, 1, 0x00, 0,
+    0, 1, 1, 1, 0x00, 0,
+};
+
+/* ---- the files that the calls are to write */
+
+static const uint8_t T_UNFOLDED[] = {
+    0x4D, 0x4C, 0x42, 1, 0, 3, 5, 0, 1, 1, 6, 0, 'c', 'e', 'm', 0, 0, 0, 1, 1,
+    0, 0, 1, 1, 0, 0,
+    0, 1, 2, 1, 0, 0,
+    1, 2, 1, 1, 0, 0,
+    1, 0, 3, 1, 0, 0,
+    2, 2, 2, 1, 0, 0,
+    2, 1, 4, 1, 0, 0,
+};
+
+static const uint8_t K_OR_K[] = {
+    0x4D, 0x4C, 0x42, 1, 0, 1, 5, 0, 2, 2, 4, 0, 'c', 0, 0, 1, 0, 1,
+    0, 0xFF, 1, 1, 0, 0,
+    0, 0xFF, 3, 1, 0, 0,
+    1, 0, 2, 2, 0x01, 0, 0x11, 1,
+    3, 0, 4, 2, 0x01, 0, 0x11, 1,
+};
+
+static const uint8_t K_THEN_K[] = {
+    0x4D, 0x4C, 0x42, 1, 0, 1, 4, 0, 3, 2, 3, 0, 'c', 0, 0, 0, 1,
+    0, 0, 1, 2, 0x01, 0, 0x11, 1,
+    1, 0xFF, 2, 1, 0, 0,
+    2, 0, 3, 2, 0x02, 0, 0x12, 1,
+};
+
+static const uint8_t K_AND_K[] = {
+    0x4D, 0x4C, 0x42, 1, 0, 1, 4, 0, 3, 2, 1, 0, 'c', 0, 0, 0, 1,
+    0, 0, 3, 4, 0x01, 0, 0x11, 1, 0x02, 0, 0x12, 1,
+};
+
+static const uint8_t K_CLOSED[] = {
+    0x4D, 0x4C, 0x42, 1, 0, 1, 3, 0, 2, 2, 3, 0, 'c', 1, 0, 1,
+    0, 0xFF, 1, 1, 0, 0,
+    1, 0, 2, 2, 0x01, 0, 0x11, 1,
+    2, 0xFF, 1, 1, 0x11, 0,
+};
+
+static const uint8_t S_CLOSED[] = {
+    0x4D, 0x4C, 0x42, 1, 0, 2, 3, 0, 1, 1, 4, 0, 'a', 'b', 1, 0, 1,
+    0, 0xFF, 1, 1, 0, 0,
+    1, 0, 1, 1, 0, 0,
+    1, 1, 2, 1, 0, 0,
+    2, 0xFF, 1, 1, 0, 0,
+};
+
+/* ---- checking */
+
+static int checks, differences;
+
+static void expect(const char *what, uint64_t answer, uint64_t expected) {
+    checks++;
+    if (answer == expected) {
+        printf("  %s: %llu\n", what, (unsigned long long)answer);
+    } else {
+        differences++;
+        printf("  %s: %llu, DIFFERENT from %llu\n", what, (unsigned long long)answer, (unsigned long long)expected);
+    }
+}
+
+/* What stands in lent bytes before a call. */
+#define LENT 0xA5
+
+static uint64_t work[RA_WORKING_WORDS];
+static uint8_t out[RA_LONGEST_FILE];
+
+static void lend(void) {
+    memset(work, LENT, sizeof work);
+    memset(out, LENT, sizeof out);
+}
+
+/* Are the lent bytes from a place on as they were? */
+static int untouched_from(size_t at) {
+    for (size_t i = at; i < sizeof out; i++)
+        if (out[i] != LENT)
+            return 0;
+    return 1;
+}
+
+/* The file was written to the front of the output, and the bytes behind it are as they were lent. */
+static void expect_file(struct ra_written answer, const uint8_t *file, size_t length) {
+    expect("number", answer.number, 0);
+    expect("automaton at fault", answer.automaton, 0);
+    expect("length", answer.length, length);
+    expect("the file is the expected one", memcmp(out, file, length) == 0, 1);
+    expect("bytes behind it as lent", untouched_from(length), 1);
+}
+
+static void expect_refusal(struct ra_written answer, enum ra_refusal number, int automaton) {
+    expect("number", answer.number, number);
+    expect("automaton at fault", answer.automaton, automaton);
+    expect("length", answer.length, 0);
+    expect("output as lent", untouched_from(0), 1);
+}
+
+/* ---- the calls */
+
+static void expect_counts(const char *name, const uint8_t *file, size_t size, const uint64_t counts[5]) {
+    printf("ra_read of %s\n", name);
+    struct ra_reading r = ra_read(file, size);
+    expect("number", r.number, 0);
+    expect("letters", r.letters, counts[0]);
+    expect("states", r.states, counts[1]);
+    expect("registers", r.registers, counts[2]);
+    expect("symbols", r.symbols, counts[3]);
+    expect("arcs", r.arcs, counts[4]);
+}
+
+static void expect_fault(const char *name, const uint8_t *file, size_t size, enum ra_refusal number) {
+    printf("ra_read of %s\n", name);
+    struct ra_reading r = ra_read(file, size);
+    expect("number", r.number, number);
+    expect("all counts together", r.letters + r.states + r.registers + r.symbols + r.arcs, 0);
+}
+
+static void test_read(void) {
+    expect_counts("T", T, sizeof T, (uint64_t[]){3, 3, 2, 3, 5});
+    expect_counts("V", V, sizeof V, (uint64_t[]){3, 3, 2, 3, 4});
+    expect_counts("K", K, sizeof K, (uint64_t[]){1, 2, 2, 2, 1});
+    expect_counts("S", S, sizeof S, (uint64_t[]){2, 2, 1, 1, 2});
+    expect_fault("no bytes, by a null pointer", NULL, 0, RA_ENDS_INSIDE_A_FIELD);
+    expect_fault("T without its last byte", T, sizeof T - 1, RA_ENDS_INSIDE_A_FIELD);
+
+    uint8_t damaged[sizeof T + 1];
+    const struct { const char *name; size_t at; uint8_t byte; enum ra_refusal number; } faults[] = {
+        {"T with another mark", 2, 'b', RA_MARK},
+        {"T of version 2", 3, 2, RA_VERSION},
+        {"T with 9 registers", 8, 9, RA_HEADER_COUNT},
+        {"T with the letters c c m", 13, 'c', RA_LETTERS_NOT_ASCENDING},
+        {"T with the final flag 02", 17, 2, RA_FINAL_FLAG},
+        {"T with an arc to state 3", 20, 3, RA_ARC_FIELD},
+        {"T with a write to register 0", 22, 0x10, RA_OPERATION},
+    };
+    for (size_t i = 0; i < sizeof faults / sizeof faults[0]; i++) {
+        memcpy(damaged, T, sizeof T);
+        damaged[faults[i].at] = faults[i].byte;
+        expect_fault(faults[i].name, damaged, sizeof T, faults[i].number);
+    }
+    memcpy(damaged, T, sizeof T);
+    damaged[sizeof T] = 0;
+    expect_fault("T and one byte more", damaged, sizeof damaged, RA_BYTES_AFTER_THE_LAST_ARC);
+}
+
+static void expect_word(const char *name, const uint8_t *file, size_t size, const char *word, int accepted, int live) {
+    printf("ra_accepts of %s and '%s'\n", name, word);
+    lend();
+    struct ra_membership r = ra_accepts(file, size, (const uint8_t *)word, strlen(word), work, RA_WORKING_WORDS);
+    expect("number", r.number, 0);
+    expect("automaton at fault", r.automaton, 0);
+    expect("accepted", r.accepted, accepted);
+    expect("live", r.live, live);
+}
+
+static void test_accepts(void) {
+    expect_word("T", T, sizeof T, "cc", 1, 1);
+    expect_word("T", T, sizeof T, "cmmc", 1, 1);
+    expect_word("T", T, sizeof T, "eme", 1, 1);
+    expect_word("T", T, sizeof T, "ce", 0, 0);
+    expect_word("T", T, sizeof T, "c", 0, 1);
+    expect_word("T", T, sizeof T, "", 0, 1);
+    expect_word("T", T, sizeof T, "cxc", 0, 0);
+    expect_word("V", V, sizeof V, "ee", 0, 0);
+    expect_word("K", K, sizeof K, "c", 1, 1);
+    expect_word("S", S, sizeof S, "aab", 1, 1);
+    expect_word("K followed by K", K_THEN_K, sizeof K_THEN_K, "cc", 1, 1);
+    expect_word("the closure of K", K_CLOSED, sizeof K_CLOSED, "ccc", 1, 2);
+    expect_word("the closure of S", S_CLOSED, sizeof S_CLOSED, "", 1, 2);
+    expect_word("the closure of S", S_CLOSED, sizeof S_CLOSED, "a", 0, 1);
+
+    printf("ra_accepts with a working word too few\n");
+    struct ra_membership r = ra_accepts(T, sizeof T, NULL, 0, work, RA_WORKING_WORDS - 1);
+    expect("number", r.number, RA_TOO_LITTLE_MEMORY_LENT);
+    expect("automaton at fault", r.automaton, 0);
+    expect("accepted", r.accepted, 0);
+    expect("live", r.live, 0);
+
+    printf("ra_accepts of T without its last byte\n");
+    r = ra_accepts(T, sizeof T - 1, NULL, 0, work, RA_WORKING_WORDS);
+    expect("number", r.number, RA_ENDS_INSIDE_A_FIELD);
+    expect("automaton at fault", r.automaton, 1);
+}
+
+static void test_unfold(void) {
+    printf("ra_unfold of T\n");
+    lend();
+    expect_file(ra_unfold(T, sizeof T, work, RA_WORKING_WORDS, out, sizeof out), T_UNFOLDED, sizeof T_UNFOLDED);
+    printf("ra_unfold of T into exactly enough bytes\n");
+    lend();
+    expect_file(ra_unfold(T, sizeof T, work, RA_WORKING_WORDS, out, sizeof T_UNFOLDED), T_UNFOLDED, sizeof T_UNFOLDED);
+    printf("ra_unfold of T into a byte too few\n");
+    lend();
+    expect_refusal(ra_unfold(T, sizeof T, work, RA_WORKING_WORDS, out, sizeof T_UNFOLDED - 1), RA_OUTPUT_TOO_SHORT, 0);
+    printf("ra_unfold of T with a working word too few\n");
+    lend();
+    expect_refusal(ra_unfold(T, sizeof T, work, RA_WORKING_WORDS - 1, out, sizeof out), RA_TOO_LITTLE_MEMORY_LENT, 0);
+}
+
+typedef struct ra_written join(const uint8_t *, size_t, const uint8_t *, size_t, uint8_t *, size_t);
+
+static void test_join(const char *name, join *call, const uint8_t *expected, size_t length) {
+    printf("%s of K and K\n", name);
+    lend();
+    expect_file(call(K, sizeof K, K, sizeof K, out, sizeof out), expected, length);
+    printf("%s of K and K into exactly enough bytes\n", name);
+    lend();
+    expect_file(call(K, sizeof K, K, sizeof K, out, length), expected, length);
+    printf("%s of K and K into a byte too few\n", name);
+    lend();
+    expect_refusal(call(K, sizeof K, K, sizeof K, out, length - 1), RA_OUTPUT_TOO_SHORT, 0);
+    printf("%s of K and S\n", name);
+    lend();
+    expect_refusal(call(K, sizeof K, S, sizeof S, out, sizeof out), RA_LETTER_LISTS_DIFFER, 0);
+    printf("%s of K and no file\n", name);
+    lend();
+    expect_refusal(call(K, sizeof K, NULL, 0, out, sizeof out), RA_ENDS_INSIDE_A_FIELD, 2);
+}
+
+/* What a join of T and V accepts: the words cc and ee. */
+static void test_joined(const char *name, join *call, int cc, int ee) {
+    printf("%s of T and V\n", name);
+    lend();
+    struct ra_written r = call(T, sizeof T, V, sizeof V, out, sizeof out);
+    expect("number", r.number, 0);
+    struct ra_membership m = ra_accepts(out, r.length, (const uint8_t *)"cc", 2, work, RA_WORKING_WORDS);
+    expect("number of cc", m.number, 0);
+    expect("accepts cc", m.accepted, cc);
+    m = ra_accepts(out, r.length, (const uint8_t *)"ee", 2, work, RA_WORKING_WORDS);
+    expect("number of ee", m.number, 0);
+    expect("accepts ee", m.accepted, ee);
+}
+
+static void test_close(void) {
+    printf("ra_close of K\n");
+    lend();
+    expect_file(ra_close(K, sizeof K, out, sizeof out), K_CLOSED, sizeof K_CLOSED);
+    printf("ra_close of S into exactly enough bytes\n");
+    lend();
+    expect_file(ra_close(S, sizeof S, out, sizeof S_CLOSED), S_CLOSED, sizeof S_CLOSED);
+    printf("ra_close of S into a byte too few\n");
+    lend();
+    expect_refusal(ra_close(S, sizeof S, out, sizeof S_CLOSED - 1), RA_OUTPUT_TOO_SHORT, 0);
+    printf("ra_close of no file\n");
+    lend();
+    expect_refusal(ra_close(NULL, 0, out, sizeof out), RA_ENDS_INSIDE_A_FIELD, 1);
+}
+
+static void expect_comparison(struct ra_comparison r, int taker, uint64_t pairs, const char *word) {
+    expect("number", r.number, 0);
+    expect("automaton at fault", r.automaton, 0);
+    expect("accepted only by", r.taker, taker);
+    expect("pairs", r.pairs, pairs);
+    expect("length", r.length, strlen(word));
+    expect("the word is the expected one", memcmp(out, word, strlen(word)) == 0, 1);
+    expect("bytes behind it as lent", untouched_from(strlen(word)), 1);
+}
+
+static void expect_no_comparison(struct ra_comparison r, enum ra_refusal number, int automaton) {
+    expect("number", r.number, number);
+    expect("automaton at fault", r.automaton, automaton);
+    expect("all else together", r.taker + r.pairs + r.length, 0);
+    expect("buffer as lent", untouched_from(0), 1);
+}
+
+static void test_compare(void) {
+    printf("ra_compare of T and its unfolding\n");
+    lend();
+    expect_comparison(ra_compare(T, sizeof T, T_UNFOLDED, sizeof T_UNFOLDED, work, RA_WORKING_WORDS, out, RA_WORD_BYTES), 0, 6, "");
+    printf("ra_compare of T and V\n");
+    lend();
+    expect_comparison(ra_compare(T, sizeof T, V, sizeof V, work, RA_WORKING_WORDS, out, RA_WORD_BYTES), 1, 6, "ee");
+    printf("ra_compare of V and T\n");
+    lend();
+    expect_comparison(ra_compare(V, sizeof V, T, sizeof T, work, RA_WORKING_WORDS, out, RA_WORD_BYTES), 2, 6, "ee");
+    printf("ra_compare of T and K\n");
+    lend();
+    expect_no_comparison(ra_compare(T, sizeof T, K, sizeof K, work, RA_WORKING_WORDS, out, RA_WORD_BYTES), RA_LETTER_LISTS_DIFFER, 0);
+    printf("ra_compare of T and no file\n");
+    lend();
+    expect_no_comparison(ra_compare(T, sizeof T, NULL, 0, work, RA_WORKING_WORDS, out, RA_WORD_BYTES), RA_ENDS_INSIDE_A_FIELD, 2);
+    printf("ra_compare with a byte too few for the word\n");
+    lend();
+    expect_no_comparison(ra_compare(T, sizeof T, V, sizeof V, work, RA_WORKING_WORDS, out, RA_WORD_BYTES - 1), RA_TOO_LITTLE_MEMORY_LENT, 0);
+}
+
+int main(void) {
+    test_read();
+    test_accepts();
+    test_unfold();
+    test_join("ra_union", ra_union, K_OR_K, sizeof K_OR_K);
+    test_joined("ra_union", ra_union, 1, 1);
+    test_join("ra_concatenate", ra_concatenate, K_THEN_K, sizeof K_THEN_K);
+    test_joined("ra_concatenate", ra_concatenate, 0, 0);
+    test_join("ra_intersect", ra_intersect, K_AND_K, sizeof K_AND_K);
+    test_joined("ra_intersect", ra_intersect, 1, 0);
+    test_close();
+    test_compare();
+    printf("%d checks, %d differences\n", checks, differences);
+    return differences > 0;
+}

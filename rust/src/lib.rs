@@ -1,0 +1,195 @@
+//! Finite-state registered automata in files: read, run, unfold, join and compare them.
+//!
+//! A safe function for each call of the verified engine, whose static library this crate links. The engine allocates
+//! nothing: working words and outputs are lent by the caller. It is proved that every call finishes on every input,
+//! touches only what it was lent, and answers what the engine's definitions say; a refused call leaves the output lent
+//! to it as it was. What is not proved is this thin layer: that it hands over pointers and lengths as they are.
+//!
+//! ```
+//! // 0 to 1 on 'c'; 1 is final
+//! let file = b"MLB\x01\x00\x01\x02\x00\x01\x01\x01\x00c\x00\x01\x00\x00\x01\x01\x00\x00";
+//! let mut work = registered_automata::working_words();
+//! let answer = registered_automata::accepts(file, b"c", &mut work).unwrap();
+//! assert!(answer.accepted);
+//! assert_eq!(answer.live, 1);
+//! ```
+
+mod engine;
+mod refusal;
+
+pub use refusal::{Automaton, Reason, Refusal};
+
+/// How many working words a call asks for.
+pub const WORKING_WORDS: usize = 8192;
+
+/// How many bytes comparing asks for, for the word that it shows.
+pub const WORD_BYTES: usize = 512;
+
+/// The length of the longest file.
+pub const LONGEST_FILE: usize = 41_292;
+
+/// Working words for any number of calls, one after the other.
+pub fn working_words() -> Box<[u64]> {
+    vec![0; WORKING_WORDS].into_boxed_slice()
+}
+
+/// The counts in the header of a valid file.
+#[derive(Clone, Copy, Debug, PartialEq, Eq)]
+pub struct Counts {
+    pub letters: usize,
+    pub states: usize,
+    pub registers: usize,
+    pub symbols: usize,
+    pub arcs: usize,
+}
+
+/// Whether a word is accepted, and how many configurations are live after it.
+#[derive(Clone, Copy, Debug, PartialEq, Eq)]
+pub struct Membership {
+    pub accepted: bool,
+    pub live: u64,
+}
+
+/// Whether two automata accept the same words. `pairs` is the number of distinct pairs of live sets over all words.
+#[derive(Clone, Copy, Debug, PartialEq, Eq)]
+pub enum Comparison {
+    Same {
+        pairs: u64,
+    },
+    /// The word that is shown has `length` bytes, at the front of the buffer lent, and is a shortest one that exactly
+    /// one of the two accepts: the one named.
+    Different {
+        pairs: u64,
+        accepted_by: Automaton,
+        length: usize,
+    },
+}
+
+/// Is the file valid? Answers its counts, or its first fault.
+pub fn read(file: &[u8]) -> Result<Counts, Refusal> {
+    let r = unsafe { engine::ra_read(file.as_ptr(), file.len()) };
+    Refusal::unless(r.number, 1)?;
+    Ok(Counts {
+        letters: r.letters as usize,
+        states: r.states as usize,
+        registers: r.registers as usize,
+        symbols: r.symbols as usize,
+        arcs: r.arcs as usize,
+    })
+}
+
+/// Does the automaton of the file accept the word? A word with a byte that is no letter is rejected.
+pub fn accepts(file: &[u8], word: &[u8], work: &mut [u64]) -> Result<Membership, Refusal> {
+    let r = unsafe {
+        engine::ra_accepts(
+            file.as_ptr(),
+            file.len(),
+            word.as_ptr(),
+            word.len(),
+            work.as_mut_ptr(),
+            work.len(),
+        )
+    };
+    Refusal::unless(r.number, r.automaton)?;
+    Ok(Membership {
+        accepted: r.accepted != 0,
+        live: r.live,
+    })
+}
+
+fn written(r: engine::Written) -> Result<usize, Refusal> {
+    Refusal::unless(r.number, r.automaton)?;
+    Ok(r.length as usize)
+}
+
+/// Writes an automaton without registers that accepts the same words, and answers the length of its file.
+pub fn unfold(file: &[u8], work: &mut [u64], out: &mut [u8]) -> Result<usize, Refusal> {
+    written(unsafe {
+        engine::ra_unfold(
+            file.as_ptr(),
+            file.len(),
+            work.as_mut_ptr(),
+            work.len(),
+            out.as_mut_ptr(),
+            out.len(),
+        )
+    })
+}
+
+/// Writes an automaton that accepts the words of either, and answers the length of its file.
+pub fn union(first: &[u8], second: &[u8], out: &mut [u8]) -> Result<usize, Refusal> {
+    written(unsafe {
+        engine::ra_union(
+            first.as_ptr(),
+            first.len(),
+            second.as_ptr(),
+            second.len(),
+            out.as_mut_ptr(),
+            out.len(),
+        )
+    })
+}
+
+/// Writes an automaton that accepts a word of the first followed by one of the second, and answers the length of its file.
+pub fn concatenate(first: &[u8], second: &[u8], out: &mut [u8]) -> Result<usize, Refusal> {
+    written(unsafe {
+        engine::ra_concatenate(
+            first.as_ptr(),
+            first.len(),
+            second.as_ptr(),
+            second.len(),
+            out.as_mut_ptr(),
+            out.len(),
+        )
+    })
+}
+
+/// Writes an automaton that accepts the words that both accept, and answers the length of its file.
+pub fn intersect(first: &[u8], second: &[u8], out: &mut [u8]) -> Result<usize, Refusal> {
+    written(unsafe {
+        engine::ra_intersect(
+            first.as_ptr(),
+            first.len(),
+            second.as_ptr(),
+            second.len(),
+            out.as_mut_ptr(),
+            out.len(),
+        )
+    })
+}
+
+/// Writes an automaton that accepts the finite sequences of words of the file's, and answers the length of its file.
+pub fn close(file: &[u8], out: &mut [u8]) -> Result<usize, Refusal> {
+    written(unsafe { engine::ra_close(file.as_ptr(), file.len(), out.as_mut_ptr(), out.len()) })
+}
+
+/// Do the two accept the same words, of every length? Where they don't, a shortest word that exactly one accepts is
+/// written to the front of `word`.
+pub fn compare(
+    first: &[u8],
+    second: &[u8],
+    work: &mut [u64],
+    word: &mut [u8],
+) -> Result<Comparison, Refusal> {
+    let r = unsafe {
+        engine::ra_compare(
+            first.as_ptr(),
+            first.len(),
+            second.as_ptr(),
+            second.len(),
+            work.as_mut_ptr(),
+            work.len(),
+            word.as_mut_ptr(),
+            word.len(),
+        )
+    };
+    Refusal::unless(r.number, r.automaton)?;
+    Ok(match Automaton::from_number(r.taker) {
+        None => Comparison::Same { pairs: r.pairs },
+        Some(accepted_by) => Comparison::Different {
+            pairs: r.pairs,
+            accepted_by,
+            length: r.length as usize,
+        },
+    })
+}

@@ -1,0 +1,148 @@
+//! Refusals: why a call did not answer, and which automaton is at fault.
+
+use std::fmt;
+
+/// The first or the second automaton of a call; the only one of a call with one is the first.
+#[derive(Clone, Copy, Debug, PartialEq, Eq)]
+pub enum Automaton {
+    First,
+    Second,
+}
+
+impl Automaton {
+    pub(crate) fn from_number(number: u8) -> Option<Automaton> {
+        match number {
+            1 => Some(Automaton::First),
+            2 => Some(Automaton::Second),
+            _ => None,
+        }
+    }
+}
+
+/// What a refusal's number stands for.
+#[derive(Clone, Copy, Debug, PartialEq, Eq)]
+pub enum Reason {
+    EndsInsideAField = 1,
+    Mark = 2,
+    Version = 3,
+    HeaderCount = 4,
+    LettersNotAscending = 5,
+    FinalFlag = 6,
+    ArcField = 7,
+    Operation = 8,
+    BytesAfterTheLastArc = 9,
+    LetterListsDiffer = 10,
+    JoinedBeyondALimit = 11,
+    TooManyConfigurations = 21,
+    TooManyPlainArcs = 22,
+    TooManyPairs = 23,
+    TooLittleMemoryLent = 24,
+    OutputTooShort = 25,
+}
+
+impl Reason {
+    /// All of them, in the order of their numbers.
+    pub const ALL: [Reason; 16] = [
+        Reason::EndsInsideAField,
+        Reason::Mark,
+        Reason::Version,
+        Reason::HeaderCount,
+        Reason::LettersNotAscending,
+        Reason::FinalFlag,
+        Reason::ArcField,
+        Reason::Operation,
+        Reason::BytesAfterTheLastArc,
+        Reason::LetterListsDiffer,
+        Reason::JoinedBeyondALimit,
+        Reason::TooManyConfigurations,
+        Reason::TooManyPlainArcs,
+        Reason::TooManyPairs,
+        Reason::TooLittleMemoryLent,
+        Reason::OutputTooShort,
+    ];
+
+    /// The number of the refusal.
+    pub fn number(self) -> u8 {
+        self as u8
+    }
+
+    fn from_number(number: u8) -> Option<Reason> {
+        Reason::ALL
+            .into_iter()
+            .find(|reason| reason.number() == number)
+    }
+
+    /// A sentence for a user.
+    pub fn message(self) -> &'static str {
+        match self {
+            Reason::EndsInsideAField => "the file ends inside a field",
+            Reason::Mark => "the file does not begin with the mark MLB",
+            Reason::Version => "the file is not of version 1",
+            Reason::HeaderCount => "a count in the header is outside its range",
+            Reason::LettersNotAscending => "the letters are not strictly ascending",
+            Reason::FinalFlag => "a final flag is neither 00 nor 01",
+            Reason::ArcField => {
+                "an arc has a state, a letter or a number of operations that does not exist"
+            }
+            Reason::Operation => {
+                "an operation is none, or names a register or a symbol that does not exist"
+            }
+            Reason::BytesAfterTheLastArc => "there are bytes after the last arc",
+            Reason::LetterListsDiffer => "the two letter lists differ",
+            Reason::JoinedBeyondALimit => "the joined automaton is beyond a limit",
+            Reason::TooManyConfigurations => "more than 256 configurations can be reached",
+            Reason::TooManyPlainArcs => "there are more than 2048 plain arcs",
+            Reason::TooManyPairs => "there are more than 512 pairs of live sets",
+            Reason::TooLittleMemoryLent => "too little memory was lent",
+            Reason::OutputTooShort => "the output is shorter than the result",
+        }
+    }
+}
+
+/// Why a call did not answer. Where one automaton is at fault, it is named.
+#[derive(Clone, Copy, Debug, PartialEq, Eq)]
+pub struct Refusal {
+    pub reason: Reason,
+    pub automaton: Option<Automaton>,
+}
+
+impl Refusal {
+    /// The refusal with this number; none where it is 0.
+    pub(crate) fn unless(number: u8, automaton: u8) -> Result<(), Refusal> {
+        if number == 0 {
+            return Ok(());
+        }
+        let reason = Reason::from_number(number).expect("the engine answers no other number");
+        Err(Refusal {
+            reason,
+            automaton: Automaton::from_number(automaton),
+        })
+    }
+}
+
+impl fmt::Display for Refusal {
+    fn fmt(&self, f: &mut fmt::Formatter<'_>) -> fmt::Result {
+        match self.automaton {
+            None => write!(
+                f,
+                "refused ({}): {}",
+                self.reason.number(),
+                self.reason.message()
+            ),
+            Some(Automaton::First) => write!(
+                f,
+                "refused ({}), first automaton: {}",
+                self.reason.number(),
+                self.reason.message()
+            ),
+            Some(Automaton::Second) => write!(
+                f,
+                "refused ({}), second automaton: {}",
+                self.reason.number(),
+                self.reason.message()
+            ),
+        }
+    }
+}
+
+impl std::error::Error for Refusal {}

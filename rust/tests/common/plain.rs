@@ -1,0 +1,596 @@
+//! The requirements (document 01) written down plainly in Rust, with vectors and maps and no care for memory or speed.
+//! It shares no code and no table layout with the engine: what both answer alike was reached in two ways.
+
+use std::collections::{BTreeSet, HashMap};
+
+/// A refusal: its number, and the automaton at fault (0 where none is).
+#[derive(Clone, Copy, Debug, PartialEq, Eq)]
+pub struct Refusal {
+    pub number: u8,
+    pub automaton: u8,
+}
+
+fn refuse<T>(number: u8, automaton: u8) -> Result<T, Refusal> {
+    Err(Refusal { number, automaton })
+}
+
+#[derive(Clone, Copy, Debug, PartialEq, Eq)]
+pub struct Operation {
+    pub writes: bool,
+    pub register: usize,
+    pub symbol: u8,
+}
+
+/// The read of register 0, which always passes.
+const READ_ZERO: Operation = Operation {
+    writes: false,
+    register: 0,
+    symbol: 0,
+};
+
+#[derive(Clone, Debug, PartialEq, Eq)]
+pub struct Arc {
+    pub from: usize,
+    /// `None` is the empty move.
+    pub letter: Option<usize>,
+    pub to: usize,
+    pub operations: Vec<Operation>,
+}
+
+#[derive(Clone, Debug, PartialEq, Eq)]
+pub struct Automaton {
+    pub letters: Vec<u8>,
+    pub registers: usize,
+    pub symbols: usize,
+    pub finals: Vec<bool>,
+    pub arcs: Vec<Arc>,
+}
+
+// ---- the file
+
+/// The automaton in a file, or the number of its first fault.
+pub fn read(file: &[u8]) -> Result<Automaton, u8> {
+    let mut rest = file;
+    let mut want = |n: usize| -> Result<&[u8], u8> {
+        if rest.len() < n {
+            return Err(1);
+        }
+        let (part, behind) = rest.split_at(n);
+        rest = behind;
+        Ok(part)
+    };
+    let header = want(12)?;
+    if &header[0..3] != b"MLB" {
+        return Err(2);
+    }
+    if header[3] != 1 || header[4] != 0 {
+        return Err(3);
+    }
+    let a = header[5] as usize;
+    let s = header[6] as usize + 256 * header[7] as usize;
+    let n = header[8] as usize;
+    let g = header[9] as usize;
+    let m = header[10] as usize + 256 * header[11] as usize;
+    let within = a <= 64
+        && (1..=256).contains(&s)
+        && (1..=8).contains(&n)
+        && (1..=16).contains(&g)
+        && m <= 2048;
+    if !within {
+        return Err(4);
+    }
+    let letters = want(a)?.to_vec();
+    if letters.windows(2).any(|w| w[0] >= w[1]) {
+        return Err(5);
+    }
+    let flags = want(s)?.to_vec();
+    if flags.iter().any(|f| *f > 1) {
+        return Err(6);
+    }
+    let mut arcs = Vec::new();
+    for _ in 0..m {
+        let four = want(4)?.to_vec();
+        let (from, letter, to, p) = (
+            four[0] as usize,
+            four[1],
+            four[2] as usize,
+            four[3] as usize,
+        );
+        if from >= s || (letter != 0xFF && letter as usize >= a) || to >= s || p < 1 || p > 8 {
+            return Err(7);
+        }
+        let mut operations = Vec::new();
+        let bytes = want(2 * p)?.to_vec();
+        for two in bytes.chunks(2) {
+            let (kind, register, symbol) = (two[0] >> 4, (two[0] & 15) as usize, two[1]);
+            if kind > 1 || register >= n || symbol as usize >= g {
+                return Err(8);
+            }
+            if register == 0 && (kind != 0 || symbol != 0) {
+                return Err(8);
+            }
+            operations.push(Operation {
+                writes: kind == 1,
+                register,
+                symbol,
+            });
+        }
+        let letter = if letter == 0xFF {
+            None
+        } else {
+            Some(letter as usize)
+        };
+        arcs.push(Arc {
+            from,
+            letter,
+            to,
+            operations,
+        });
+    }
+    if !rest.is_empty() {
+        return Err(9);
+    }
+    let finals = flags.iter().map(|f| *f == 1).collect();
+    Ok(Automaton {
+        letters,
+        registers: n,
+        symbols: g,
+        finals,
+        arcs,
+    })
+}
+
+/// The file of an automaton whose counts fit.
+pub fn write(x: &Automaton) -> Vec<u8> {
+    let s = x.finals.len();
+    let m = x.arcs.len();
+    let mut out = b"MLB\x01\x00".to_vec();
+    out.push(x.letters.len() as u8);
+    out.extend([
+        (s % 256) as u8,
+        (s / 256) as u8,
+        x.registers as u8,
+        x.symbols as u8,
+    ]);
+    out.extend([(m % 256) as u8, (m / 256) as u8]);
+    out.extend(&x.letters);
+    out.extend(x.finals.iter().map(|f| *f as u8));
+    for arc in &x.arcs {
+        let letter = arc.letter.map_or(0xFF, |l| l as u8);
+        out.extend([
+            arc.from as u8,
+            letter,
+            arc.to as u8,
+            arc.operations.len() as u8,
+        ]);
+        for o in &arc.operations {
+            out.extend([(o.writes as u8) * 16 + o.register as u8, o.symbol]);
+        }
+    }
+    out
+}
+
+// ---- runs
+
+/// A state, and the symbols of the registers.
+type Configuration = (usize, Vec<u8>);
+
+fn initial(x: &Automaton) -> Configuration {
+    (0, vec![0; x.registers])
+}
+
+/// Where an arc leads from a configuration, if it passes.
+fn pass(arc: &Arc, from: &Configuration) -> Option<Configuration> {
+    if arc.from != from.0 {
+        return None;
+    }
+    let mut contents = from.1.clone();
+    for o in &arc.operations {
+        if o.writes {
+            contents[o.register] = o.symbol;
+        } else if contents[o.register] != o.symbol {
+            return None;
+        }
+    }
+    Some((arc.to, contents))
+}
+
+/// An arc between numbered configurations.
+#[derive(Clone, Copy, Debug, PartialEq, Eq)]
+struct Plain {
+    from: usize,
+    letter: Option<usize>,
+    to: usize,
+}
+
+/// The configurations in number order, and the plain arcs in the order met; `None` where there are more than 256.
+fn explore(x: &Automaton) -> Option<(Vec<Configuration>, Vec<Plain>)> {
+    let mut known = vec![initial(x)];
+    let mut numbers = HashMap::from([(initial(x), 0)]);
+    let mut plain = Vec::new();
+    let mut at = 0;
+    while at < known.len() {
+        let here = known[at].clone();
+        for arc in &x.arcs {
+            if let Some(there) = pass(arc, &here) {
+                let next = known.len();
+                let to = *numbers.entry(there.clone()).or_insert(next);
+                if to == next {
+                    known.push(there);
+                }
+                if known.len() > 256 {
+                    return None;
+                }
+                plain.push(Plain {
+                    from: at,
+                    letter: arc.letter,
+                    to,
+                });
+            }
+        }
+        at += 1;
+    }
+    Some((known, plain))
+}
+
+/// All that empty moves lead to from a set of configurations.
+fn close_by_empty_moves(x: &Automaton, set: BTreeSet<Configuration>) -> BTreeSet<Configuration> {
+    let mut all = set.clone();
+    let mut waiting: Vec<Configuration> = set.into_iter().collect();
+    while let Some(here) = waiting.pop() {
+        for arc in x.arcs.iter().filter(|a| a.letter.is_none()) {
+            if let Some(there) = pass(arc, &here) {
+                if all.insert(there.clone()) {
+                    waiting.push(there);
+                }
+            }
+        }
+    }
+    all
+}
+
+fn live_at_start(x: &Automaton) -> BTreeSet<Configuration> {
+    close_by_empty_moves(x, BTreeSet::from([initial(x)]))
+}
+
+fn live_after(
+    x: &Automaton,
+    set: &BTreeSet<Configuration>,
+    letter: usize,
+) -> BTreeSet<Configuration> {
+    let mut next = BTreeSet::new();
+    for here in set {
+        for arc in x.arcs.iter().filter(|a| a.letter == Some(letter)) {
+            next.extend(pass(arc, here));
+        }
+    }
+    close_by_empty_moves(x, next)
+}
+
+fn is_accepted(x: &Automaton, set: &BTreeSet<Configuration>) -> bool {
+    set.iter().any(|c| x.finals[c.0])
+}
+
+fn read_one(file: &[u8], automaton: u8) -> Result<Automaton, Refusal> {
+    read(file).map_err(|number| Refusal { number, automaton })
+}
+
+/// Whether the word is accepted, and how many configurations are live after it.
+pub fn accepts(file: &[u8], word: &[u8], words_lent: usize) -> Result<(bool, usize), Refusal> {
+    if words_lent < 8192 {
+        return refuse(24, 0);
+    }
+    let x = read_one(file, 1)?;
+    if explore(&x).is_none() {
+        return refuse(21, 1);
+    }
+    let mut live = live_at_start(&x);
+    for byte in word {
+        let Some(letter) = x.letters.iter().position(|l| l == byte) else {
+            return Ok((false, 0));
+        };
+        live = live_after(&x, &live, letter);
+    }
+    Ok((is_accepted(&x, &live), live.len()))
+}
+
+/// The unfolded file.
+pub fn unfold(file: &[u8], words_lent: usize, room: usize) -> Result<Vec<u8>, Refusal> {
+    if words_lent < 8192 {
+        return refuse(24, 0);
+    }
+    let x = read_one(file, 1)?;
+    let Some((known, plain)) = explore(&x) else {
+        return refuse(21, 1);
+    };
+    if plain.len() > 2048 {
+        return refuse(22, 1);
+    }
+    let arcs = plain
+        .iter()
+        .map(|p| Arc {
+            from: p.from,
+            letter: p.letter,
+            to: p.to,
+            operations: vec![READ_ZERO],
+        })
+        .collect();
+    let finals = known.iter().map(|c| x.finals[c.0]).collect();
+    let result = write(&Automaton {
+        letters: x.letters,
+        registers: 1,
+        symbols: 1,
+        finals,
+        arcs,
+    });
+    if room < result.len() {
+        return refuse(25, 0);
+    }
+    Ok(result)
+}
+
+// ---- comparing
+
+#[derive(Clone, Debug, PartialEq, Eq)]
+pub enum Verdict {
+    Same {
+        pairs: usize,
+    },
+    /// A shortest word that exactly one accepts, and which: 1 or 2.
+    Different {
+        pairs: usize,
+        accepted_by: u8,
+        word: Vec<u8>,
+    },
+}
+
+/// The verdict on two files. Where words of the same length tell the two apart, the first in letter order is shown.
+pub fn compare(
+    first: &[u8],
+    second: &[u8],
+    words_lent: usize,
+    room: usize,
+) -> Result<Verdict, Refusal> {
+    if words_lent < 8192 || room < 512 {
+        return refuse(24, 0);
+    }
+    let x = read_one(first, 1)?;
+    let y = read_one(second, 2)?;
+    if x.letters != y.letters {
+        return refuse(10, 0);
+    }
+    for (automaton, z) in [(1, &x), (2, &y)] {
+        match explore(z) {
+            None => return refuse(21, automaton),
+            Some((_, plain)) if plain.len() > 2048 => return refuse(22, automaton),
+            Some(_) => {}
+        }
+    }
+    let begin = (live_at_start(&x), live_at_start(&y));
+    let mut met = HashMap::from([(begin.clone(), 0usize)]);
+    let mut pairs = vec![(begin, Vec::new())];
+    let mut at = 0;
+    while at < pairs.len() {
+        for letter in 0..x.letters.len() {
+            let (pair, word): &((BTreeSet<_>, BTreeSet<_>), Vec<u8>) = &pairs[at];
+            let next = (
+                live_after(&x, &pair.0, letter),
+                live_after(&y, &pair.1, letter),
+            );
+            if !met.contains_key(&next) {
+                let mut longer = word.clone();
+                longer.push(x.letters[letter]);
+                met.insert(next.clone(), pairs.len());
+                pairs.push((next, longer));
+                if pairs.len() > 512 {
+                    return refuse(23, 0);
+                }
+            }
+        }
+        at += 1;
+    }
+    for (pair, word) in &pairs {
+        let by_first = is_accepted(&x, &pair.0);
+        if by_first != is_accepted(&y, &pair.1) {
+            let accepted_by = if by_first { 1 } else { 2 };
+            return Ok(Verdict::Different {
+                pairs: pairs.len(),
+                accepted_by,
+                word: word.clone(),
+            });
+        }
+    }
+    Ok(Verdict::Same { pairs: pairs.len() })
+}
+
+// ---- joins
+
+fn two(first: &[u8], second: &[u8]) -> Result<(Automaton, Automaton), Refusal> {
+    let x = read_one(first, 1)?;
+    let y = read_one(second, 2)?;
+    if x.letters != y.letters {
+        return refuse(10, 0);
+    }
+    Ok((x, y))
+}
+
+fn within_limits(x: &Automaton, room: usize) -> Result<Vec<u8>, Refusal> {
+    let long_arc = x.arcs.iter().any(|a| a.operations.len() > 8);
+    if x.finals.len() > 256 || x.registers > 8 || x.arcs.len() > 2048 || long_arc {
+        return refuse(11, 0);
+    }
+    let result = write(x);
+    if room < result.len() {
+        return refuse(25, 0);
+    }
+    Ok(result)
+}
+
+fn empty_move(from: usize, to: usize) -> Arc {
+    Arc {
+        from,
+        letter: None,
+        to,
+        operations: vec![READ_ZERO],
+    }
+}
+
+fn moved_operations(operations: &[Operation], registers: usize) -> Vec<Operation> {
+    let register = |r: usize| if r == 0 { 0 } else { r + registers };
+    operations
+        .iter()
+        .map(|o| Operation {
+            register: register(o.register),
+            ..*o
+        })
+        .collect()
+}
+
+fn moved(arc: &Arc, states: usize, registers: usize) -> Arc {
+    Arc {
+        from: arc.from + states,
+        letter: arc.letter,
+        to: arc.to + states,
+        operations: moved_operations(&arc.operations, registers),
+    }
+}
+
+pub fn union(first: &[u8], second: &[u8], room: usize) -> Result<Vec<u8>, Refusal> {
+    let (x, y) = two(first, second)?;
+    let behind = 1 + x.finals.len();
+    let mut finals = vec![false];
+    finals.extend(&x.finals);
+    finals.extend(&y.finals);
+    let mut arcs = vec![empty_move(0, 1), empty_move(0, behind)];
+    arcs.extend(x.arcs.iter().map(|a| moved(a, 1, 0)));
+    arcs.extend(y.arcs.iter().map(|a| moved(a, behind, 0)));
+    let registers = x.registers.max(y.registers);
+    let symbols = x.symbols.max(y.symbols);
+    within_limits(
+        &Automaton {
+            letters: x.letters,
+            registers,
+            symbols,
+            finals,
+            arcs,
+        },
+        room,
+    )
+}
+
+pub fn concatenate(first: &[u8], second: &[u8], room: usize) -> Result<Vec<u8>, Refusal> {
+    let (x, y) = two(first, second)?;
+    let s = x.finals.len();
+    let mut finals = vec![false; s];
+    finals.extend(&y.finals);
+    let mut arcs = x.arcs.clone();
+    arcs.extend((0..s).filter(|i| x.finals[*i]).map(|i| empty_move(i, s)));
+    arcs.extend(y.arcs.iter().map(|a| moved(a, s, x.registers - 1)));
+    let registers = x.registers + y.registers - 1;
+    let symbols = x.symbols.max(y.symbols);
+    within_limits(
+        &Automaton {
+            letters: x.letters,
+            registers,
+            symbols,
+            finals,
+            arcs,
+        },
+        room,
+    )
+}
+
+pub fn intersect(first: &[u8], second: &[u8], room: usize) -> Result<Vec<u8>, Refusal> {
+    let (x, y) = two(first, second)?;
+    let (sx, sy) = (x.finals.len(), y.finals.len());
+    let k = x.registers - 1;
+    let mut finals = Vec::new();
+    for i in 0..sx {
+        for j in 0..sy {
+            finals.push(x.finals[i] && y.finals[j]);
+        }
+    }
+    let mut arcs = Vec::new();
+    for a in x.arcs.iter().filter(|a| a.letter.is_some()) {
+        for b in y.arcs.iter().filter(|b| b.letter == a.letter) {
+            let mut operations = a.operations.clone();
+            operations.extend(moved_operations(&b.operations, k));
+            arcs.push(Arc {
+                from: a.from * sy + b.from,
+                letter: a.letter,
+                to: a.to * sy + b.to,
+                operations,
+            });
+        }
+    }
+    for a in x.arcs.iter().filter(|a| a.letter.is_none()) {
+        for j in 0..sy {
+            arcs.push(Arc {
+                from: a.from * sy + j,
+                letter: None,
+                to: a.to * sy + j,
+                operations: a.operations.clone(),
+            });
+        }
+    }
+    for b in y.arcs.iter().filter(|b| b.letter.is_none()) {
+        let operations = moved_operations(&b.operations, k);
+        for i in 0..sx {
+            arcs.push(Arc {
+                from: i * sy + b.from,
+                letter: None,
+                to: i * sy + b.to,
+                operations: operations.clone(),
+            });
+        }
+    }
+    let registers = x.registers + y.registers - 1;
+    let symbols = x.symbols.max(y.symbols);
+    within_limits(
+        &Automaton {
+            letters: x.letters,
+            registers,
+            symbols,
+            finals,
+            arcs,
+        },
+        room,
+    )
+}
+
+pub fn close(file: &[u8], room: usize) -> Result<Vec<u8>, Refusal> {
+    let x = read_one(file, 1)?;
+    let mut finals = vec![true];
+    finals.extend(&x.finals);
+    let mut arcs = vec![empty_move(0, 1)];
+    arcs.extend(x.arcs.iter().map(|a| moved(a, 1, 0)));
+    let mut clearing: Vec<Operation> = (1..x.registers)
+        .map(|register| Operation {
+            writes: true,
+            register,
+            symbol: 0,
+        })
+        .collect();
+    if clearing.is_empty() {
+        clearing.push(READ_ZERO);
+    }
+    for i in (0..x.finals.len()).filter(|i| x.finals[*i]) {
+        arcs.push(Arc {
+            from: i + 1,
+            letter: None,
+            to: 1,
+            operations: clearing.clone(),
+        });
+    }
+    let (registers, symbols) = (x.registers, x.symbols);
+    within_limits(
+        &Automaton {
+            letters: x.letters,
+            registers,
+            symbols,
+            finals,
+            arcs,
+        },
+        room,
+    )
+}

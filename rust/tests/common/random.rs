@@ -1,0 +1,198 @@
+//! Seeded random files, words and couples: small and large, valid and damaged, at the limits and one beyond.
+
+use super::plain::{write, Arc, Automaton, Operation};
+
+/// A generator of random numbers (xorshift64*): the same seed gives the same numbers everywhere.
+pub struct Random(u64);
+
+impl Random {
+    pub fn new(seed: u64) -> Random {
+        Random(seed.wrapping_mul(0x9E37_79B9_7F4A_7C15) | 1)
+    }
+
+    pub fn next(&mut self) -> u64 {
+        self.0 ^= self.0 >> 12;
+        self.0 ^= self.0 << 25;
+        self.0 ^= self.0 >> 27;
+        self.0.wrapping_mul(0x2545_F491_4F6C_DD1D)
+    }
+
+    /// A number below n.
+    pub fn below(&mut self, n: usize) -> usize {
+        ((self.next() >> 33) % n as u64) as usize
+    }
+
+    pub fn one_in(&mut self, n: usize) -> bool {
+        self.below(n) == 0
+    }
+
+    fn of<T: Copy>(&mut self, choices: &[T]) -> T {
+        choices[self.below(choices.len())]
+    }
+}
+
+pub fn letters(r: &mut Random) -> Vec<u8> {
+    let a = r.of(&[0, 1, 1, 2, 2, 2, 3, 3, 5, 26, 64]);
+    let mut all = Vec::new();
+    while all.len() < a {
+        let byte = if a > 5 {
+            r.below(256) as u8
+        } else {
+            r.of(b"abcdefgh\x00\xfe\xff")
+        };
+        if !all.contains(&byte) {
+            all.push(byte);
+        }
+    }
+    all.sort();
+    all
+}
+
+fn operation(r: &mut Random, registers: usize, symbols: usize) -> Operation {
+    let register = r.below(registers);
+    if register == 0 {
+        return Operation {
+            writes: false,
+            register,
+            symbol: 0,
+        };
+    }
+    Operation {
+        writes: r.one_in(2),
+        register,
+        symbol: r.below(symbols) as u8,
+    }
+}
+
+/// An automaton over the given letters, within the limits.
+pub fn automaton(r: &mut Random, letters: &[u8]) -> Automaton {
+    let s = r.of(&[1, 1, 2, 2, 3, 3, 4, 5, 6, 8, 12, 20, 60, 127, 128, 255, 256]);
+    let registers = r.of(&[1, 1, 1, 2, 2, 2, 3, 4, 8]);
+    let symbols = r.of(&[1, 2, 2, 2, 3, 4, 16]);
+    let m = match r.below(12) {
+        0 => 0,
+        1 => 2048,
+        2 => 2047,
+        3 => r.below(2049),
+        4 | 5 => r.below(200),
+        _ => r.below(3 * s + 3).min(2048),
+    };
+    let moves = r.of(&[2, 4, 8, 1000]);
+    let finals = (0..s).map(|_| r.one_in(3)).collect();
+    let mut arcs = Vec::new();
+    for i in 0..m {
+        let letter = if letters.is_empty() || r.one_in(moves) {
+            None
+        } else {
+            Some(r.below(letters.len()))
+        };
+        let p = if r.one_in(40) {
+            8
+        } else {
+            r.of(&[1, 1, 1, 2, 3])
+        };
+        let operations = (0..p).map(|_| operation(r, registers, symbols)).collect();
+        let from = if r.one_in(3) { i % s } else { r.below(s) };
+        arcs.push(Arc {
+            from,
+            letter,
+            to: r.below(s),
+            operations,
+        });
+    }
+    Automaton {
+        letters: letters.to_vec(),
+        registers,
+        symbols,
+        finals,
+        arcs,
+    }
+}
+
+/// The same automaton with a small change, so that two languages are often nearly the same.
+pub fn changed(r: &mut Random, x: &Automaton) -> Automaton {
+    let mut y = x.clone();
+    match r.below(4) {
+        0 => {
+            let i = r.below(y.finals.len());
+            y.finals[i] = !y.finals[i];
+        }
+        1 if !y.arcs.is_empty() => {
+            let i = r.below(y.arcs.len());
+            y.arcs.remove(i);
+        }
+        2 if y.arcs.len() > 1 => {
+            let i = r.below(y.arcs.len() - 1);
+            y.arcs.swap(i, i + 1);
+        }
+        _ => {}
+    }
+    y
+}
+
+/// A file that is often damaged: a byte changed, cut short, or longer.
+pub fn damaged(r: &mut Random, mut file: Vec<u8>) -> Vec<u8> {
+    match r.below(3) {
+        0 if !file.is_empty() => {
+            let near = file.len().min(if r.one_in(2) { 16 } else { usize::MAX });
+            let i = r.below(near);
+            file[i] = if r.one_in(2) {
+                r.below(256) as u8
+            } else {
+                r.of(&[0, 1, 2, 16, 17, 255])
+            };
+        }
+        1 => {
+            let n = r.below(file.len() + 1);
+            file.truncate(n);
+        }
+        _ => file.push(r.below(256) as u8),
+    }
+    file
+}
+
+pub fn file(r: &mut Random, letters: &[u8]) -> Vec<u8> {
+    let bytes = write(&automaton(r, letters));
+    if r.one_in(8) {
+        damaged(r, bytes)
+    } else {
+        bytes
+    }
+}
+
+/// A couple of files, mostly over the same letters, often nearly the same automaton.
+pub fn couple(r: &mut Random) -> (Vec<u8>, Vec<u8>) {
+    let shared = letters(r);
+    let x = automaton(r, &shared);
+    let y = match r.below(4) {
+        0 => x.clone(),
+        1 => changed(r, &x),
+        _ => automaton(r, &shared),
+    };
+    let (mut first, mut second) = (write(&x), write(&y));
+    if r.one_in(12) {
+        first = damaged(r, first);
+    }
+    if r.one_in(12) {
+        second = damaged(r, second);
+    }
+    if r.one_in(20) {
+        let other = letters(r);
+        second = file(r, &other);
+    }
+    (first, second)
+}
+
+/// A word, mostly over the letters.
+pub fn word(r: &mut Random, letters: &[u8]) -> Vec<u8> {
+    let n = r.of(&[0, 1, 2, 3, 5, 10, 40]);
+    (0..n)
+        .map(|_| {
+            if letters.is_empty() || r.one_in(60) {
+                r.below(256) as u8
+            } else {
+                r.of(letters)
+            }
+        })
+        .collect()
+}

@@ -1,0 +1,208 @@
+//! Every call of the engine against a plain implementation of the requirements, on seeded random files, words and couples.
+//!
+//! `cargo test` takes a short run. `SEEDS=100000 cargo test --release -- --nocapture` takes a long one; `FIRST=n` begins
+//! at seed n. A failing seed is printed; `FIRST=n SEEDS=1` runs it alone.
+
+mod common;
+
+use common::plain;
+use common::random::{self, Random};
+use registered_automata as engine;
+
+/// What stands in lent memory before a call: bytes and words that a call must leave, or may not depend on.
+fn noise(r: &mut Random, n: usize) -> Vec<u8> {
+    (0..n).map(|_| r.next() as u8).collect()
+}
+
+fn words(r: &mut Random, n: usize) -> Vec<u64> {
+    match r.below(3) {
+        0 => vec![0; n],
+        1 => vec![u64::MAX; n],
+        _ => (0..n).map(|_| r.next()).collect(),
+    }
+}
+
+fn refusal(e: engine::Refusal) -> plain::Refusal {
+    let automaton = match e.automaton {
+        None => 0,
+        Some(engine::Automaton::First) => 1,
+        Some(engine::Automaton::Second) => 2,
+    };
+    plain::Refusal {
+        number: e.reason.number(),
+        automaton,
+    }
+}
+
+/// How many bytes of output to lend: exactly enough, one too few, few, or plenty.
+fn room(r: &mut Random, length: Option<usize>) -> usize {
+    match (r.below(6), length) {
+        (0, Some(n)) => n,
+        (1, Some(n)) => n.saturating_sub(1),
+        (2, _) => r.below(2000),
+        _ => 60_000,
+    }
+}
+
+/// The engine's answer and the output it leaves are those of the plain implementation; the rest of the output is as lent.
+fn same_file(
+    seed: u64,
+    answer: Result<usize, engine::Refusal>,
+    expected: Result<Vec<u8>, plain::Refusal>,
+    lent: &[u8],
+    out: &[u8],
+) {
+    match (answer, expected) {
+        (Ok(n), Ok(file)) => {
+            assert_eq!(n, file.len(), "seed {seed}");
+            assert_eq!(out[..n], file[..], "seed {seed}");
+            assert_eq!(out[n..], lent[n..], "seed {seed}: bytes behind the result");
+        }
+        (Err(e), Err(f)) => {
+            assert_eq!(refusal(e), f, "seed {seed}");
+            assert_eq!(out, lent, "seed {seed}: output after a refusal");
+        }
+        (answer, expected) => panic!("seed {seed}: {answer:?}, expected {expected:?}"),
+    }
+}
+
+fn try_read(seed: u64, r: &mut Random) {
+    let letters = random::letters(r);
+    let file = random::file(r, &letters);
+    let answer = engine::read(&file).map_err(|e| e.reason.number());
+    let expected = plain::read(&file).map(|x| engine::Counts {
+        letters: x.letters.len(),
+        states: x.finals.len(),
+        registers: x.registers,
+        symbols: x.symbols,
+        arcs: x.arcs.len(),
+    });
+    assert_eq!(answer, expected, "seed {seed}");
+}
+
+fn try_accepts(seed: u64, r: &mut Random) {
+    let letters = random::letters(r);
+    let file = random::file(r, &letters);
+    let word = random::word(r, &letters);
+    let lent = if r.one_in(30) { 8191 } else { 8192 };
+    let mut work = words(r, lent);
+    let answer = engine::accepts(&file, &word, &mut work)
+        .map(|m| (m.accepted, m.live as usize))
+        .map_err(refusal);
+    assert_eq!(answer, plain::accepts(&file, &word, lent), "seed {seed}");
+}
+
+fn try_unfold(seed: u64, r: &mut Random) {
+    let letters = random::letters(r);
+    let file = random::file(r, &letters);
+    let lent = if r.one_in(30) { 8191 } else { 8192 };
+    let mut work = words(r, lent);
+    let n = room(r, plain::unfold(&file, 8192, 60_000).ok().map(|f| f.len()));
+    let old = noise(r, n);
+    let mut out = old.clone();
+    let answer = engine::unfold(&file, &mut work, &mut out);
+    same_file(seed, answer, plain::unfold(&file, lent, n), &old, &out);
+}
+
+type Join = fn(&[u8], &[u8], &mut [u8]) -> Result<usize, engine::Refusal>;
+type PlainJoin = fn(&[u8], &[u8], usize) -> Result<Vec<u8>, plain::Refusal>;
+
+fn try_join(seed: u64, r: &mut Random, join: Join, expected: PlainJoin) {
+    let (first, second) = random::couple(r);
+    let n = room(r, expected(&first, &second, 60_000).ok().map(|f| f.len()));
+    let old = noise(r, n);
+    let mut out = old.clone();
+    let answer = join(&first, &second, &mut out);
+    same_file(seed, answer, expected(&first, &second, n), &old, &out);
+}
+
+fn try_close(seed: u64, r: &mut Random) {
+    let letters = random::letters(r);
+    let file = random::file(r, &letters);
+    let n = room(r, plain::close(&file, 60_000).ok().map(|f| f.len()));
+    let old = noise(r, n);
+    let mut out = old.clone();
+    let answer = engine::close(&file, &mut out);
+    same_file(seed, answer, plain::close(&file, n), &old, &out);
+}
+
+fn try_compare(seed: u64, r: &mut Random) {
+    let (first, second) = random::couple(r);
+    let lent = if r.one_in(30) { 8191 } else { 8192 };
+    let bytes = if r.one_in(30) { 511 } else { 512 + r.below(20) };
+    let mut work = words(r, lent);
+    let old = noise(r, bytes);
+    let mut word = old.clone();
+    let answer = engine::compare(&first, &second, &mut work, &mut word);
+    match (answer, plain::compare(&first, &second, lent, bytes)) {
+        (Ok(engine::Comparison::Same { pairs }), Ok(plain::Verdict::Same { pairs: p })) => {
+            assert_eq!(pairs as usize, p, "seed {seed}");
+            assert_eq!(word, old, "seed {seed}: buffer of equal automata");
+        }
+        (
+            Ok(engine::Comparison::Different {
+                pairs,
+                accepted_by,
+                length,
+            }),
+            Ok(plain::Verdict::Different {
+                pairs: p,
+                word: shortest,
+                ..
+            }),
+        ) => {
+            // Among shortest words any may be shown: it must be as long, and accepted by exactly the one that is named.
+            assert_eq!(pairs as usize, p, "seed {seed}");
+            assert_eq!(length, shortest.len(), "seed {seed}");
+            let by_first = plain::accepts(&first, &word[..length], 8192).unwrap().0;
+            let by_second = plain::accepts(&second, &word[..length], 8192).unwrap().0;
+            assert_eq!(
+                by_first,
+                accepted_by == engine::Automaton::First,
+                "seed {seed}"
+            );
+            assert_eq!(
+                by_second,
+                accepted_by == engine::Automaton::Second,
+                "seed {seed}"
+            );
+            assert_eq!(
+                word[length..],
+                old[length..],
+                "seed {seed}: bytes behind the word"
+            );
+        }
+        (Err(e), Err(f)) => {
+            assert_eq!(refusal(e), f, "seed {seed}");
+            assert_eq!(word, old, "seed {seed}: buffer after a refusal");
+        }
+        (answer, expected) => panic!("seed {seed}: {answer:?}, expected {expected:?}"),
+    }
+}
+
+fn number_from(name: &str, otherwise: u64) -> u64 {
+    std::env::var(name)
+        .ok()
+        .and_then(|s| s.parse().ok())
+        .unwrap_or(otherwise)
+}
+
+#[test]
+fn every_call_answers_as_the_plain_implementation() {
+    let first = number_from("FIRST", 1);
+    let seeds = number_from("SEEDS", 4_000);
+    for seed in first..first + seeds {
+        let r = &mut Random::new(seed);
+        match r.below(8) {
+            0 => try_read(seed, r),
+            1 => try_accepts(seed, r),
+            2 => try_unfold(seed, r),
+            3 => try_join(seed, r, engine::union, plain::union),
+            4 => try_join(seed, r, engine::concatenate, plain::concatenate),
+            5 => try_join(seed, r, engine::intersect, plain::intersect),
+            6 => try_close(seed, r),
+            _ => try_compare(seed, r),
+        }
+    }
+    println!("seeds {first} to {}: no difference", first + seeds - 1);
+}

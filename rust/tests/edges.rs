@@ -1,0 +1,401 @@
+//! Every limit of the requirements: a file, a couple or a join just at it, and one just beyond it.
+
+mod common;
+
+use common::plain::{self, write, Arc, Automaton, Operation};
+use registered_automata as engine;
+
+/// The operation of an arc that always passes.
+const PASS: Operation = Operation {
+    writes: false,
+    register: 0,
+    symbol: 0,
+};
+
+fn reads(register: usize, symbol: u8) -> Operation {
+    Operation {
+        writes: false,
+        register,
+        symbol,
+    }
+}
+
+fn writes(register: usize, symbol: u8) -> Operation {
+    Operation {
+        writes: true,
+        register,
+        symbol,
+    }
+}
+
+/// An arc on the first letter.
+fn arc(from: usize, to: usize, operations: &[Operation]) -> Arc {
+    Arc {
+        from,
+        letter: Some(0),
+        to,
+        operations: operations.to_vec(),
+    }
+}
+
+/// An automaton over the letter a with two symbols; its last state is final.
+fn automaton(states: usize, registers: usize, arcs: Vec<Arc>) -> Automaton {
+    let mut finals = vec![false; states];
+    finals[states - 1] = true;
+    Automaton {
+        letters: b"a".to_vec(),
+        registers,
+        symbols: 2,
+        finals,
+        arcs,
+    }
+}
+
+/// The file of an automaton with that many states, registers and arcs, of which each has that many operations.
+fn sized(states: usize, registers: usize, arcs: usize, operations: usize) -> Vec<u8> {
+    let loops = vec![arc(0, 0, &vec![PASS; operations]); arcs];
+    write(&automaton(states, registers, loops))
+}
+
+fn number<T>(answer: Result<T, engine::Refusal>) -> u8 {
+    answer.map_or_else(|e| e.reason.number(), |_| 0)
+}
+
+// ---- reading
+
+#[test]
+fn operations_of_an_arc() {
+    assert_eq!(number(engine::read(&sized(1, 1, 1, 8))), 0);
+    assert_eq!(number(engine::read(&sized(1, 1, 1, 9))), 7);
+    assert_eq!(number(engine::read(&sized(1, 1, 1, 0))), 7);
+}
+
+#[test]
+fn counts_of_the_header() {
+    let letters = |n: usize| {
+        let mut x = automaton(1, 1, Vec::new());
+        x.letters = (0..n as u8).collect();
+        write(&x)
+    };
+    assert_eq!(number(engine::read(&letters(0))), 0);
+    assert_eq!(number(engine::read(&letters(64))), 0);
+    assert_eq!(number(engine::read(&letters(65))), 4);
+    assert_eq!(number(engine::read(&sized(256, 8, 2048, 8))), 0);
+    assert_eq!(number(engine::read(&sized(257, 8, 2048, 8))), 4);
+    assert_eq!(number(engine::read(&sized(256, 9, 2048, 8))), 4);
+    assert_eq!(number(engine::read(&sized(256, 8, 2049, 8))), 4);
+}
+
+#[test]
+fn the_longest_file() {
+    let mut x = automaton(256, 8, vec![arc(0, 0, &[PASS; 8]); 2048]);
+    x.letters = (0..64).collect();
+    let file = write(&x);
+    assert_eq!(file.len(), engine::LONGEST_FILE);
+    assert_eq!(number(engine::read(&file)), 0);
+}
+
+// ---- exploring
+
+/// A chain of that many states; its last arc, if there is one, writes register 1 and leads to state 0, where nothing passes.
+fn chain(states: usize, once_more: bool) -> Vec<u8> {
+    let mut arcs: Vec<Arc> = (1..states).map(|i| arc(i - 1, i, &[reads(1, 0)])).collect();
+    if once_more {
+        arcs.push(arc(states - 1, 0, &[writes(1, 1)]));
+    }
+    write(&automaton(states, 2, arcs))
+}
+
+/// One state, and 2,048 plain arcs; one more where asked for.
+fn plain_arcs(one_more: bool) -> Vec<u8> {
+    let mut arcs = vec![arc(0, 0, &[PASS]); 1023];
+    arcs.push(arc(0, 0, &[writes(1, 1)]));
+    if one_more {
+        arcs.push(arc(0, 0, &[reads(1, 1)]));
+    }
+    write(&automaton(1, 2, arcs))
+}
+
+#[test]
+fn configurations_in_membership() {
+    let mut work = engine::working_words();
+    let word = [b'a'; 255];
+    let answer = engine::accepts(&chain(256, false), &word, &mut work);
+    assert_eq!(
+        answer,
+        Ok(engine::Membership {
+            accepted: true,
+            live: 1
+        })
+    );
+    assert_eq!(
+        number(engine::accepts(&chain(255, true), &word, &mut work)),
+        0
+    );
+    assert_eq!(
+        number(engine::accepts(&chain(256, true), &word, &mut work)),
+        21
+    );
+}
+
+#[test]
+fn membership_knows_no_limit_of_plain_arcs() {
+    let mut work = engine::working_words();
+    let answer = engine::accepts(&plain_arcs(true), b"aa", &mut work);
+    assert_eq!(
+        answer,
+        Ok(engine::Membership {
+            accepted: true,
+            live: 2
+        })
+    );
+}
+
+#[test]
+fn working_words_and_bytes_of_the_word() {
+    let file = chain(2, false);
+    let mut out = vec![0; engine::LONGEST_FILE];
+    for (words, expected) in [(0, 24), (8191, 24), (8192, 0), (8193, 0)] {
+        let mut work = vec![u64::MAX; words];
+        let mut word = [0; 512];
+        assert_eq!(number(engine::accepts(&file, b"a", &mut work)), expected);
+        assert_eq!(number(engine::unfold(&file, &mut work, &mut out)), expected);
+        assert_eq!(
+            number(engine::compare(&file, &file, &mut work, &mut word)),
+            expected
+        );
+    }
+    let mut work = engine::working_words();
+    for (bytes, expected) in [(0, 24), (511, 24), (512, 0), (513, 0)] {
+        let mut word = vec![0; bytes];
+        assert_eq!(
+            number(engine::compare(&file, &file, &mut work, &mut word)),
+            expected
+        );
+    }
+}
+
+// ---- calls that write a file
+
+/// The output that a call leaves, lent `room` bytes, and its answer.
+fn written(
+    room: usize,
+    call: impl FnOnce(&mut [u8]) -> Result<usize, engine::Refusal>,
+) -> (Result<usize, u8>, Vec<u8>) {
+    let mut out = vec![0xA5; room];
+    let answer = call(&mut out).map_err(|e| e.reason.number());
+    (answer, out)
+}
+
+/// The call writes the file into plenty of room, and into exactly enough; into a byte too few it writes nothing, and answers 25.
+fn writes_just_into(file: &[u8], call: impl Fn(&mut [u8]) -> Result<usize, engine::Refusal>) {
+    let n = file.len();
+    let (answer, out) = written(n + 100, &call);
+    assert_eq!(answer, Ok(n));
+    assert_eq!(out[..n], *file);
+    assert_eq!(out[n..], [0xA5; 100]);
+    assert_eq!(written(n, &call), (Ok(n), file.to_vec()));
+    assert_eq!(written(n - 1, &call), (Err(25), vec![0xA5; n - 1]));
+    assert_eq!(written(0, &call), (Err(25), Vec::new()));
+}
+
+/// The call is refused with the number, and leaves the output as lent.
+fn refused(expected: u8, call: impl Fn(&mut [u8]) -> Result<usize, engine::Refusal>) {
+    let room = engine::LONGEST_FILE;
+    assert_eq!(written(room, call), (Err(expected), vec![0xA5; room]));
+}
+
+#[test]
+fn configurations_in_unfolding() {
+    for file in [chain(256, false), chain(255, true)] {
+        let expected = plain::unfold(&file, 8192, 60_000).unwrap();
+        writes_just_into(&expected, |out| {
+            engine::unfold(&file, &mut engine::working_words(), out)
+        });
+    }
+    refused(21, |out| {
+        engine::unfold(&chain(256, true), &mut engine::working_words(), out)
+    });
+}
+
+#[test]
+fn plain_arcs_in_unfolding() {
+    let file = plain_arcs(false);
+    let expected = plain::unfold(&file, 8192, 60_000).unwrap();
+    assert_eq!(plain::read(&expected).unwrap().arcs.len(), 2048);
+    writes_just_into(&expected, |out| {
+        engine::unfold(&file, &mut engine::working_words(), out)
+    });
+    refused(22, |out| {
+        engine::unfold(&plain_arcs(true), &mut engine::working_words(), out)
+    });
+}
+
+// ---- joins
+
+type Join = fn(&[u8], &[u8], &mut [u8]) -> Result<usize, engine::Refusal>;
+type PlainJoin = fn(&[u8], &[u8], usize) -> Result<Vec<u8>, plain::Refusal>;
+
+fn joins_within(join: Join, plainly: PlainJoin, first: &[u8], second: &[u8]) -> Automaton {
+    let expected = plainly(first, second, 60_000).unwrap();
+    writes_just_into(&expected, |out| join(first, second, out));
+    plain::read(&expected).unwrap()
+}
+
+fn joins_beyond(join: Join, plainly: PlainJoin, first: &[u8], second: &[u8]) {
+    assert_eq!(
+        plainly(first, second, 60_000),
+        Err(plain::Refusal {
+            number: 11,
+            automaton: 0
+        })
+    );
+    refused(11, |out| join(first, second, out));
+}
+
+#[test]
+fn unions_at_the_limits() {
+    let within = |a: &[u8], b: &[u8]| joins_within(engine::union, plain::union, a, b);
+    let beyond = |a: &[u8], b: &[u8]| joins_beyond(engine::union, plain::union, a, b);
+    let x = within(&sized(127, 1, 1, 1), &sized(128, 1, 1, 1));
+    assert_eq!(x.finals.len(), 256);
+    beyond(&sized(128, 1, 1, 1), &sized(128, 1, 1, 1));
+    let x = within(&sized(2, 8, 1, 1), &sized(2, 8, 1, 8));
+    assert_eq!(x.registers, 8);
+    let x = within(&sized(2, 1, 1023, 8), &sized(2, 1, 1023, 8));
+    assert_eq!(x.arcs.len(), 2048);
+    beyond(&sized(2, 1, 1024, 8), &sized(2, 1, 1023, 8));
+}
+
+#[test]
+fn concatenations_at_the_limits() {
+    let within = |a: &[u8], b: &[u8]| joins_within(engine::concatenate, plain::concatenate, a, b);
+    let beyond = |a: &[u8], b: &[u8]| joins_beyond(engine::concatenate, plain::concatenate, a, b);
+    let x = within(&sized(128, 1, 1, 1), &sized(128, 1, 1, 1));
+    assert_eq!(x.finals.len(), 256);
+    beyond(&sized(129, 1, 1, 1), &sized(128, 1, 1, 1));
+    let x = within(&sized(2, 4, 1, 1), &sized(2, 5, 1, 8));
+    assert_eq!(x.registers, 8);
+    beyond(&sized(2, 5, 1, 1), &sized(2, 5, 1, 8));
+    let x = within(&sized(2, 1, 1024, 8), &sized(2, 1, 1023, 8));
+    assert_eq!(x.arcs.len(), 2048);
+    beyond(&sized(2, 1, 1024, 8), &sized(2, 1, 1024, 8));
+}
+
+#[test]
+fn intersections_at_the_limits() {
+    let within = |a: &[u8], b: &[u8]| joins_within(engine::intersect, plain::intersect, a, b);
+    let beyond = |a: &[u8], b: &[u8]| joins_beyond(engine::intersect, plain::intersect, a, b);
+    let x = within(&sized(16, 1, 1, 1), &sized(16, 1, 1, 1));
+    assert_eq!(x.finals.len(), 256);
+    beyond(&sized(43, 1, 1, 1), &sized(6, 1, 1, 1));
+    let x = within(&sized(2, 4, 1, 1), &sized(2, 5, 1, 1));
+    assert_eq!(x.registers, 8);
+    beyond(&sized(2, 5, 1, 1), &sized(2, 5, 1, 1));
+    let x = within(&sized(2, 1, 32, 4), &sized(2, 1, 64, 4));
+    assert_eq!(x.arcs.len(), 2048);
+    beyond(&sized(2, 1, 683, 4), &sized(2, 1, 3, 4));
+    let x = within(&sized(2, 1, 2, 4), &sized(2, 1, 2, 4));
+    assert_eq!(x.arcs[0].operations.len(), 8);
+    beyond(&sized(2, 1, 2, 4), &sized(2, 1, 2, 5));
+}
+
+#[test]
+fn closures_at_the_limits() {
+    let within = |file: &[u8]| {
+        let expected = plain::close(file, 60_000).unwrap();
+        writes_just_into(&expected, |out| engine::close(file, out));
+        plain::read(&expected).unwrap()
+    };
+    assert_eq!(within(&sized(255, 8, 1, 8)).finals.len(), 256);
+    refused(11, |out| engine::close(&sized(256, 8, 1, 8), out));
+    assert_eq!(within(&sized(2, 8, 2046, 8)).arcs.len(), 2048);
+    refused(11, |out| engine::close(&sized(2, 8, 2047, 8), out));
+}
+
+// ---- comparing
+
+/// One letter: a tail of that many states into a cycle of that many.
+fn tail_and_cycle(tail: usize, cycle: usize) -> Vec<u8> {
+    let last = tail + cycle - 1;
+    let mut arcs: Vec<Arc> = (0..last).map(|i| arc(i, i + 1, &[PASS])).collect();
+    arcs.push(arc(last, tail, &[PASS]));
+    let mut x = automaton(tail + cycle, 1, arcs);
+    x.finals = vec![true; tail + cycle];
+    write(&x)
+}
+
+/// What comparing answers, and that it left the buffer for the word as it was lent.
+fn compared(first: &[u8], second: &[u8]) -> Result<engine::Comparison, engine::Refusal> {
+    let mut word = [0xA5; 512];
+    let answer = engine::compare(first, second, &mut engine::working_words(), &mut word);
+    assert_eq!(word, [0xA5; 512]);
+    answer
+}
+
+fn refusal(reason: engine::Reason, automaton: Option<engine::Automaton>) -> engine::Refusal {
+    engine::Refusal { reason, automaton }
+}
+
+#[test]
+fn pairs_in_comparing() {
+    let second = tail_and_cycle(0, 31);
+    assert_eq!(
+        compared(&tail_and_cycle(16, 16), &second),
+        Ok(engine::Comparison::Same { pairs: 512 })
+    );
+    assert_eq!(
+        compared(&tail_and_cycle(17, 16), &second),
+        Err(refusal(engine::Reason::TooManyPairs, None))
+    );
+}
+
+#[test]
+fn configurations_and_plain_arcs_in_comparing() {
+    let (first, second) = (
+        Some(engine::Automaton::First),
+        Some(engine::Automaton::Second),
+    );
+    let configurations = engine::Reason::TooManyConfigurations;
+    let arcs = engine::Reason::TooManyPlainArcs;
+    let small = chain(2, false);
+    let cases = [
+        (chain(256, true), small.clone(), configurations, first),
+        (small.clone(), chain(256, true), configurations, second),
+        (plain_arcs(true), small.clone(), arcs, first),
+        (small.clone(), plain_arcs(true), arcs, second),
+        (plain_arcs(true), chain(256, true), arcs, first),
+    ];
+    for (a, b, reason, automaton) in cases {
+        assert_eq!(compared(&a, &b), Err(refusal(reason, automaton)));
+    }
+    for file in [chain(256, false), plain_arcs(false)] {
+        assert!(matches!(
+            compared(&file, &file),
+            Ok(engine::Comparison::Same { .. })
+        ));
+    }
+}
+
+/// Two chains that differ in their last state alone: the shown word has 255 bytes.
+#[test]
+fn a_long_word_is_shown() {
+    let first = chain(256, false);
+    let mut other = plain::read(&first).unwrap();
+    other.finals[255] = false;
+    let mut word = [0xA5; 600];
+    let answer = engine::compare(
+        &first,
+        &write(&other),
+        &mut engine::working_words(),
+        &mut word,
+    );
+    let expected = engine::Comparison::Different {
+        pairs: 257,
+        accepted_by: engine::Automaton::First,
+        length: 255,
+    };
+    assert_eq!(answer, Ok(expected));
+    assert_eq!(word[..255], [b'a'; 255]);
+    assert_eq!(word[255..], [0xA5; 345]);
+}
