@@ -96,7 +96,8 @@ pub fn read(file: &[u8]) -> Result<Automaton, u8> {
             four[2] as usize,
             four[3] as usize,
         );
-        if from >= s || (letter != 0xFF && letter as usize >= a) || to >= s || p < 1 || p > 8 {
+        if from >= s || (letter != 0xFF && letter as usize >= a) || to >= s || !(1..=8).contains(&p)
+        {
             return Err(7);
         }
         let mut operations = Vec::new();
