@@ -1,11 +1,18 @@
 -- Results: the struct that tells each answer. A number of 0 says that nothing was refused; a refusal leaves 0 in every field but its
 -- number and the automaton at fault.
+use mathlib.Core.Path.{_≡_}
+use mathlib.Core.List.{List}
+use Prim.Native.Nat.{ℕ}
 use Rattle.format.specs.declared.Reading.{Reading as ReadingAnswer}
 use Rattle.format.specs.declared.Reading.the-variants.{Valid, Refused as Fault}
 use Rattle.table.specs.declared.Membership.{Membership as MembershipAnswer}
 use Rattle.table.specs.declared.Membership.the-variants.{Accepted, Rejected, Refused}
 use Rattle.writing.specs.declared.Written.{Written as WrittenAnswer}
 use Rattle.writing.specs.declared.Written.the-variants.{Bytes, Refused as Unwritten}
+use Rattle.compare.specs.declared.Comparison.{Comparison as ComparisonAnswer}
+use Rattle.compare.specs.declared.Comparison.the-variants.{Same, Different, Refused as Uncompared}
+use Rattle.compare.specs.Compares.{Compares}
+use Rattle.registered_automata.specs.declared.results.Comparison.{Comparison}
 use Rattle.registered_automata.specs.declared.results.Reading.{Reading}
 use Rattle.registered_automata.specs.declared.results.Membership.{Membership}
 use Rattle.registered_automata.specs.declared.results.Written.{Written}
@@ -23,3 +30,15 @@ membershipFields (Refused n b) = record { live = 0; number = n; automaton = b; a
 abbrev pub writtenFields : WrittenAnswer → Written
 writtenFields (Bytes n) = record { length = n; number = 0; automaton = 0 }
 writtenFields (Unwritten n b) = record { length = 0; number = n; automaton = b }
+
+abbrev pub comparisonFields : ComparisonAnswer → Comparison
+comparisonFields (Same n) = record { pairs = n; length = 0; number = 0; automaton = 0; taker = 0 }
+comparisonFields (Different n taker size) = record { pairs = n; length = size; number = 0; automaton = 0; taker = taker }
+comparisonFields (Uncompared n b) = record { pairs = 0; length = 0; number = n; automaton = b; taker = 0 }
+
+-- comparing leaves the word free among shortest ones: the struct tells an answer that its contract allows, with the buffer `new` of
+-- the buffer `old`
+pub record ComparesTold (first second : List ℕ) (words : ℕ) (old new : List ℕ) (told : Comparison) : Type 0 where
+  pub answer : ComparisonAnswer
+  pub compares : Compares first second words old new answer
+  pub fields : told ≡ comparisonFields answer

@@ -2,17 +2,21 @@
 // A slice is a pointer and a length. c/registered_automata.h says what a caller needs to know of each.
 ghost use mathlib.Core.Path.{_≡_};
 ghost use lib.ListN.{length};
-ghost use Rattle.automata.specs.Joins.{union, concatenation, closure};
+ghost use Rattle.automata.specs.Joins.{union, concatenation, intersection, closure};
+ghost use Rattle.automata.specs.Unfolding.{unfolded};
 ghost use Rattle.format.specs.Decoding.{automatonOf};
 ghost use Rattle.format.specs.Encoding.{bytesOf};
 ghost use Rattle.format.specs.Reading.{readingOf};
 ghost use Rattle.table.specs.Membership.{membershipOf};
 ghost use Rattle.writing.specs.Answers.{outputOf};
 ghost use Rattle.joining.specs.Joining.{joinedOf, closedOf};
-ghost use Rattle.registered_automata.specs.Results.{readingFields, membershipFields, writtenFields};
+ghost use Rattle.unfold.specs.Unfolding.{unfoldingOf};
+ghost use Rattle.registered_automata.specs.Results.{readingFields, membershipFields, writtenFields, ComparesTold};
+use results::Comparison;
 use results::Membership;
 use results::Reading;
 use results::Written;
+use results::as_comparison;
 use results::as_membership;
 use results::as_reading;
 use results::as_written;
@@ -36,6 +40,16 @@ pub extern "C" fn ra_accepts(file: &[u8], word: &[u8], work: &mut [u64]) -> Memb
     as_membership(table::accepts(file, word, work))
 }
 
+// Writes the automaton without registers that accepts the same words. Refusals and cost: `unfold::unfold`.
+#[no_mangle]
+pub extern "C" fn ra_unfold(file: &[u8], work: &mut [u64], out: &mut [u8]) -> Written
+    ensures same { λ _. ⌜ length (now (work .exit)) ≡ length (now (work .entry)) ⌝ }
+    ensures answer { λ r. ⌜ r ≡ writtenFields (unfoldingOf (now (file .entry)) (length (now (work .entry))) (length (now (out .entry)))) ⌝ }
+    ensures output { λ _. ⌜ now (out .exit) ≡ outputOf (unfoldingOf (now (file .entry)) (length (now (work .entry))) (length (now (out .entry)))) (bytesOf (unfolded (automatonOf (now (file .entry))) 256)) (now (out .entry)) ⌝ }
+{
+    as_written(unfold::unfold(file, work, out))
+}
+
 // Writes the union of the two automata. Refusals and cost: `join::union`.
 #[no_mangle]
 pub extern "C" fn ra_union(first: &[u8], second: &[u8], out: &mut [u8]) -> Written
@@ -54,6 +68,15 @@ pub extern "C" fn ra_concatenate(first: &[u8], second: &[u8], out: &mut [u8]) ->
     as_written(join::concatenate(first, second, out))
 }
 
+// Writes the intersection of the two automata. Refusals and cost: `join::intersect`.
+#[no_mangle]
+pub extern "C" fn ra_intersect(first: &[u8], second: &[u8], out: &mut [u8]) -> Written
+    ensures answer { λ r. ⌜ r ≡ writtenFields (joinedOf intersection (now (first .entry)) (now (second .entry)) (length (now (out .entry)))) ⌝ }
+    ensures output { λ _. ⌜ now (out .exit) ≡ outputOf (joinedOf intersection (now (first .entry)) (now (second .entry)) (length (now (out .entry)))) (bytesOf (intersection (automatonOf (now (first .entry))) (automatonOf (now (second .entry))))) (now (out .entry)) ⌝ }
+{
+    as_written(join::intersect(first, second, out))
+}
+
 // Writes the closure of the automaton. Refusals and cost: `join::close`.
 #[no_mangle]
 pub extern "C" fn ra_close(file: &[u8], out: &mut [u8]) -> Written
@@ -61,4 +84,18 @@ pub extern "C" fn ra_close(file: &[u8], out: &mut [u8]) -> Written
     ensures output { λ _. ⌜ now (out .exit) ≡ outputOf (closedOf (now (file .entry)) (length (now (out .entry)))) (bytesOf (closure (automatonOf (now (file .entry))))) (now (out .entry)) ⌝ }
 {
     as_written(join::close(file, out))
+}
+
+// Do the two accept the same words? Refusals and cost: `compare::compare`.
+#[no_mangle]
+pub extern "C" fn ra_compare(
+    first: &[u8],
+    second: &[u8],
+    work: &mut [u64],
+    word: &mut [u8],
+) -> Comparison
+    ensures same { λ _. ⌜ length (now (work .exit)) ≡ length (now (work .entry)) ⌝ }
+    ensures compares { λ r. ⌜ ComparesTold (now (first .entry)) (now (second .entry)) (length (now (work .entry))) (now (word .entry)) (now (word .exit)) r ⌝ }
+{
+    as_comparison(compare::compare(first, second, work, word))
 }

@@ -1,6 +1,6 @@
 // The answers as other languages take them: structs of numbers with the layout of C, and the struct that tells each answer.
 ghost use mathlib.Core.Path.{_≡_};
-ghost use Rattle.registered_automata.specs.Results.{readingFields, membershipFields, writtenFields};
+ghost use Rattle.registered_automata.specs.Results.{readingFields, membershipFields, writtenFields, comparisonFields};
 
 // The counts of a valid file, with number 0; or the number of the fault, and counts of 0.
 #[repr(C)]
@@ -29,6 +29,17 @@ pub struct Written {
     pub length: u64,
     pub number: u8,
     pub automaton: u8,
+}
+
+// The number of pairs, the automaton that alone accepts the shown word, 0 where the two accept the same words, and the length of
+// that word, with number 0; or the number of the refusal and the automaton at fault, and 0 elsewhere.
+#[repr(C)]
+pub struct Comparison {
+    pub pairs: u64,
+    pub length: u64,
+    pub number: u8,
+    pub automaton: u8,
+    pub taker: u8,
 }
 
 pub fn as_reading(r: format::Reading) -> Reading
@@ -92,6 +103,38 @@ pub fn as_written(r: writing::Written) -> Written
             length: 0,
             number: n,
             automaton: b,
+        },
+    }
+}
+
+pub fn as_comparison(r: compare::Comparison) -> Comparison
+    ensures { λ x. ⌜ x ≡ comparisonFields r ⌝ }
+{
+    match r {
+        compare::Comparison::Same(n) => Comparison {
+            pairs: n,
+            length: 0,
+            number: 0,
+            automaton: 0,
+            taker: 0,
+        },
+        compare::Comparison::Different {
+            pairs,
+            taker,
+            length,
+        } => Comparison {
+            pairs,
+            length: length as u64,
+            number: 0,
+            automaton: 0,
+            taker,
+        },
+        compare::Comparison::Refused { number, automaton } => Comparison {
+            pairs: 0,
+            length: 0,
+            number,
+            automaton,
+            taker: 0,
         },
     }
 }
