@@ -236,14 +236,16 @@ fn explore(x: &Automaton) -> Option<(Vec<Configuration>, Vec<Plain>)> {
 
 /// All that empty moves lead to from a set of configurations.
 fn close_by_empty_moves(x: &Automaton, set: BTreeSet<Configuration>) -> BTreeSet<Configuration> {
+    let mut moves = vec![Vec::new(); x.finals.len()];
+    for arc in x.arcs.iter().filter(|a| a.letter.is_none()) {
+        moves[arc.from].push(arc);
+    }
     let mut all = set.clone();
     let mut waiting: Vec<Configuration> = set.into_iter().collect();
     while let Some(here) = waiting.pop() {
-        for arc in x.arcs.iter().filter(|a| a.letter.is_none()) {
-            if let Some(there) = pass(arc, &here) {
-                if all.insert(there.clone()) {
-                    waiting.push(there);
-                }
+        for there in moves[here.0].iter().filter_map(|arc| pass(arc, &here)) {
+            if all.insert(there.clone()) {
+                waiting.push(there);
             }
         }
     }
@@ -254,16 +256,19 @@ fn live_at_start(x: &Automaton) -> BTreeSet<Configuration> {
     close_by_empty_moves(x, BTreeSet::from([initial(x)]))
 }
 
+/// The configurations of a set that are in one state; in the set's order they stand together.
+fn in_state(set: &BTreeSet<Configuration>, state: usize) -> impl Iterator<Item = &Configuration> {
+    set.range((state, Vec::new())..(state + 1, Vec::new()))
+}
+
 fn live_after(
     x: &Automaton,
     set: &BTreeSet<Configuration>,
     letter: usize,
 ) -> BTreeSet<Configuration> {
     let mut next = BTreeSet::new();
-    for here in set {
-        for arc in x.arcs.iter().filter(|a| a.letter == Some(letter)) {
-            next.extend(pass(arc, here));
-        }
+    for arc in x.arcs.iter().filter(|a| a.letter == Some(letter)) {
+        next.extend(in_state(set, arc.from).filter_map(|here| pass(arc, here)));
     }
     close_by_empty_moves(x, next)
 }
@@ -505,6 +510,10 @@ pub fn intersect(first: &[u8], second: &[u8], room: usize) -> Result<Vec<u8>, Re
     let (x, y) = two(first, second)?;
     let (sx, sy) = (x.finals.len(), y.finals.len());
     let k = x.registers - 1;
+    // Beyond a limit, whatever else: said early, here and below, to spare the time.
+    if sx * sy > 256 {
+        return refuse(11, 0);
+    }
     let mut finals = Vec::new();
     for i in 0..sx {
         for j in 0..sy {
@@ -522,6 +531,9 @@ pub fn intersect(first: &[u8], second: &[u8], room: usize) -> Result<Vec<u8>, Re
                 to: a.to * sy + b.to,
                 operations,
             });
+        }
+        if arcs.len() > 2048 {
+            return refuse(11, 0);
         }
     }
     for a in x.arcs.iter().filter(|a| a.letter.is_none()) {
