@@ -1,0 +1,91 @@
+// Files that the program's arguments name. Argument 1 is the first one after the program's own name.
+use super::words::say;
+use super::words::say_number;
+
+// How many bytes of the file stand at the front of the buffer; nothing where it could not be read, and then it was told why.
+pub enum Loaded {
+    Bytes(usize),
+    Nothing,
+}
+
+// Whether a further read of an open file passes: a directory can be opened, and not be read.
+fn is_readable(file: i32) -> bool {
+    let mut one = [0u8; 1];
+    libc::read(file, &mut one) >= 0
+}
+
+// Reads the open file to the front of `buffer`, as far as it has room, and closes it.
+fn read_open(file: i32, path: &[u8], buffer: &mut [u8]) -> Loaded {
+    let n = io::read_full(file, buffer);
+    if n == 0 && !is_readable(file) {
+        os::fail(path);
+        libc::close(file);
+        return Loaded::Nothing;
+    }
+    libc::close(file);
+    Loaded::Bytes(n)
+}
+
+// Reads the file of this name to the front of `buffer`, as far as it has room.
+fn load_path(path: &[u8], buffer: &mut [u8]) -> Loaded {
+    let file = os::open_read(path);
+    if file < 0 {
+        os::fail(path);
+        return Loaded::Nothing;
+    }
+    read_open(file, path, buffer)
+}
+
+// Reads the file that an argument names to the front of `buffer`, as far as it has room.
+pub fn load(argument: usize, buffer: &mut [u8]) -> Loaded {
+    let mut path = io::buffer();
+    let length = os::arg(argument, &mut path);
+    if os::errno() != 0 {
+        os::fail(b"file name");
+        return Loaded::Nothing;
+    }
+    load_path(&path[..length], buffer)
+}
+
+// Writes the bytes to the open file and closes it, and answers whether both passed.
+fn write_open(file: i32, bytes: &[u8]) -> bool {
+    let is_written = io::write_all(file, bytes);
+    let is_closed = libc::close(file) >= 0;
+    is_written && is_closed
+}
+
+// Writes the bytes to the file of this name, new or in place of what it held, and tells how many; or tells why it could not.
+fn save_path(path: &[u8], bytes: &[u8]) {
+    let file = os::open_overwrite(path);
+    if file < 0 {
+        os::fail(path);
+        return;
+    }
+    if !write_open(file, bytes) {
+        os::fail(path);
+        return;
+    }
+    say(1, b"wrote ");
+    say_number(1, bytes.len() as u64);
+    say(1, b" bytes to ");
+    say(1, path);
+    say(1, b"\n");
+}
+
+// The same of the file that an argument names.
+fn save(argument: usize, bytes: &[u8]) {
+    let mut path = io::buffer();
+    let length = os::arg(argument, &mut path);
+    if os::errno() != 0 {
+        os::fail(b"file name");
+        return;
+    }
+    save_path(&path[..length], bytes);
+}
+
+// The same of the first n bytes.
+pub fn save_front(argument: usize, bytes: &[u8], n: usize) {
+    if n <= bytes.len() {
+        save(argument, &bytes[0..n]);
+    }
+}
