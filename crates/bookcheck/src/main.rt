@@ -15,21 +15,39 @@ enum Line {
     End,
 }
 
-// Reads one line to the front of `line`, without its newline. A last line needs none.
-fn read_line(line: &mut [u8]) -> Line {
+// The next byte of the input.
+enum Next {
+    Byte(u8),
+    End,
+}
+
+fn next_byte() -> Next {
     let mut one = [0u8; 1];
+    if io::read_full(0, &mut one) == 0 {
+        return Next::End;
+    }
+    Next::Byte(one[0])
+}
+
+// What the end of the input makes of the n bytes before it: a last line needs no newline.
+fn last_line(n: usize) -> Line {
+    if n == 0 {
+        return Line::End;
+    }
+    Line::Word(n)
+}
+
+// Reads one line to the front of `line`, without its newline.
+fn read_line(line: &mut [u8]) -> Line {
     let mut n: usize = 0;
     while n < line.len() {
-        if io::read_full(0, &mut one) == 0 {
-            if n == 0 {
-                return Line::End;
-            }
+        let Next::Byte(b) = next_byte() else {
+            return last_line(n);
+        };
+        if b == b'\n' {
             return Line::Word(n);
         }
-        if one[0] == b'\n' {
-            return Line::Word(n);
-        }
-        line[n] = one[0];
+        line[n] = b;
         n += 1;
     }
     Line::Long
@@ -92,10 +110,34 @@ fn is_fit(file: &[u8], line: &[u8], work: &mut [u64]) -> bool {
     }
 }
 
-// The same over the first n bytes of the buffers, which become slices here: an array's length asks no proof.
-fn is_fit_on(file: &[u8; 41293], n: usize, line: &[u8; 65536], work: &mut [u64; 8192]) -> bool {
-    is_fit_part(file, n, line, work)
+// All words.
+fn run(file: &[u8], line: &mut [u8], work: &mut [u64]) {
+    if !is_fit(file, line, work) {
+        return;
+    }
+    let mut turns = u64::MAX;
+    while turns > 0 && turn(file, line, work) {
+        turns -= 1;
+    }
+}
+
+// The same, the file being the first n bytes.
+fn run_on(file: &[u8], n: usize, line: &mut [u8], work: &mut [u64]) {
+    if n <= file.len() {
+        run(&file[0..n], line, work);
+    }
 }
 
 fn main() {
+    if os::arg_count() != 2 {
+        say(2, b"usage: bookcheck FILE\n");
+        return;
+    }
+    let mut file = [0u8; 41293];
+    let mut line = [0u8; 65536];
+    let mut work = [0u64; 8192];
+    let Loaded::Bytes(n) = load(1, &mut file) else {
+        return;
+    };
+    run_on(&file, n, &mut line, &mut work);
 }

@@ -1,0 +1,90 @@
+// bookjoin union|concat|intersect FIRST SECOND RESULT, bookjoin closure FIRST RESULT: joins files, writes the joined file to RESULT
+// and tells how many bytes it has. What is refused is told on standard error, and RESULT is left as it was.
+use console::files::Loaded;
+use console::files::load;
+use console::refusals::finish;
+use console::words::is_argument;
+use console::words::say;
+use writing::Written;
+
+// The operation that the first argument names: 1 union, 2 concatenation, 3 intersection, 4 closure; 0 where it names none.
+fn operation_named() -> u8 {
+    if is_argument(1, b"union") {
+        1
+    } else if is_argument(1, b"concat") {
+        2
+    } else if is_argument(1, b"intersect") {
+        3
+    } else if is_argument(1, b"closure") {
+        4
+    } else {
+        0
+    }
+}
+
+// The first operations take two files.
+fn join_files(operation: u8, first: &[u8], second: &[u8], out: &mut [u8]) -> Written {
+    match operation {
+        1 => join::union(first, second, out),
+        2 => join::concatenate(first, second, out),
+        _ => join::intersect(first, second, out),
+    }
+}
+
+// Joins the files of which a and b bytes were read, and writes the result to the file that argument 4 names.
+fn run_two(operation: u8, first: &[u8], a: usize, second: &[u8], b: usize, out: &mut [u8]) {
+    if first.len() < a {
+        return;
+    }
+    if second.len() < b {
+        return;
+    }
+    let answer = join_files(operation, &first[0..a], &second[0..b], out);
+    finish(answer, out, 2, 3, 4);
+}
+
+// Closes the file of which a bytes were read, and writes the result to the file that argument 3 names.
+fn run_one(first: &[u8], a: usize, out: &mut [u8]) {
+    if first.len() < a {
+        return;
+    }
+    let answer = join::close(&first[0..a], out);
+    finish(answer, out, 2, 2, 3);
+}
+
+fn join_two(operation: u8, out: &mut [u8]) {
+    let mut first = [0u8; 41293];
+    let mut second = [0u8; 41293];
+    let Loaded::Bytes(a) = load(2, &mut first) else {
+        return;
+    };
+    let Loaded::Bytes(b) = load(3, &mut second) else {
+        return;
+    };
+    run_two(operation, &first, a, &second, b, out);
+}
+
+fn close_one(out: &mut [u8]) {
+    let mut first = [0u8; 41293];
+    let Loaded::Bytes(a) = load(2, &mut first) else {
+        return;
+    };
+    run_one(&first, a, out);
+}
+
+// The output has room for the longest file.
+fn main() {
+    let mut out = [0u8; 41292];
+    let operation = operation_named();
+    let count = os::arg_count();
+    if operation == 4 && count == 4 {
+        close_one(&mut out);
+    } else if operation >= 1 && operation <= 3 && count == 5 {
+        join_two(operation, &mut out);
+    } else {
+        say(
+            2,
+            b"usage: bookjoin union|concat|intersect FIRST SECOND RESULT, bookjoin closure FIRST RESULT\n",
+        );
+    }
+}

@@ -1,0 +1,33 @@
+// bookunfold FILE RESULT: writes the automaton without registers that accepts the same words as the file's to RESULT, and tells how
+// many bytes it has. What is refused is told on standard error, and RESULT is left as it was.
+use console::files::Loaded;
+use console::files::load;
+use console::refusals::finish;
+use console::words::say;
+
+fn run(file: &[u8], work: &mut [u64], out: &mut [u8]) {
+    let answer = unfold::unfold(file, work, out);
+    finish(answer, out, 1, 1, 2);
+}
+
+// The same, the file being the first n bytes.
+fn run_on(file: &[u8], n: usize, work: &mut [u64], out: &mut [u8]) {
+    if n <= file.len() {
+        run(&file[0..n], work, out);
+    }
+}
+
+// The output has room for the longest file.
+fn main() {
+    if os::arg_count() != 3 {
+        say(2, b"usage: bookunfold FILE RESULT\n");
+        return;
+    }
+    let mut file = [0u8; 41293];
+    let mut work = [0u64; 8192];
+    let mut out = [0u8; 41292];
+    let Loaded::Bytes(n) = load(1, &mut file) else {
+        return;
+    };
+    run_on(&file, n, &mut work, &mut out);
+}
