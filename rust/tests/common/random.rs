@@ -109,6 +109,38 @@ pub fn automaton(r: &mut Random, letters: &[u8]) -> Automaton {
     }
 }
 
+/// An automaton in which little is live at once: about one arc for each state and letter. Two of them differ late, in long words.
+pub fn sparse(r: &mut Random, letters: &[u8]) -> Automaton {
+    let s = r.of(&[2, 3, 5, 8, 12, 16, 31]);
+    let registers = r.of(&[1, 1, 2, 2, 3]);
+    let symbols = r.of(&[2, 2, 3]);
+    let moves = r.of(&[8, 20, 1000]);
+    let finals = (0..s).map(|i| i + 1 == s || r.one_in(12)).collect();
+    let mut arcs = Vec::new();
+    for from in 0..s {
+        let next = (from + 1) % s;
+        for letter in 0..letters.len() {
+            let to = if r.one_in(3) { r.below(s) } else { next };
+            let p = r.of(&[1, 1, 1, 2]);
+            let operations = (0..p).map(|_| operation(r, registers, symbols)).collect();
+            let letter = if r.one_in(moves) { None } else { Some(letter) };
+            arcs.push(Arc {
+                from,
+                letter,
+                to,
+                operations,
+            });
+        }
+    }
+    Automaton {
+        letters: letters.to_vec(),
+        registers,
+        symbols,
+        finals,
+        arcs,
+    }
+}
+
 /// The same automaton with a small change, so that two languages are often nearly the same.
 pub fn changed(r: &mut Random, x: &Automaton) -> Automaton {
     let mut y = x.clone();
@@ -163,11 +195,12 @@ pub fn file(r: &mut Random, letters: &[u8]) -> Vec<u8> {
 /// A couple of files, mostly over the same letters, often nearly the same automaton.
 pub fn couple(r: &mut Random) -> (Vec<u8>, Vec<u8>) {
     let shared = letters(r);
-    let x = automaton(r, &shared);
+    let any = if r.one_in(2) { automaton } else { sparse };
+    let x = any(r, &shared);
     let y = match r.below(4) {
         0 => x.clone(),
         1 => changed(r, &x),
-        _ => automaton(r, &shared),
+        _ => any(r, &shared),
     };
     let (mut first, mut second) = (write(&x), write(&y));
     if r.one_in(12) {
