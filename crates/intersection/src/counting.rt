@@ -13,6 +13,7 @@ use format::Counts;
 use format::fields::arc_size;
 use format::fields::byte;
 
+// What a count says of arcs: how many they are, how many bytes they take, whether one has more than 8 operations.
 pub struct Tally {
     pub arcs: usize,
     pub size: usize,
