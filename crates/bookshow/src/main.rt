@@ -1,0 +1,86 @@
+// bookshow [--dot] FILE: writes a file in words: its counts, letters, states, registers, symbols and arcs, one a line; or with --dot
+// as a graph in the DOT language. A file with a fault is shown as far as it can be read, then the fault's number, the place where
+// reading met it, in bytes from the file's start, and what it means.
+use console::files::Loaded;
+use console::files::load;
+use console::refusals::say_meaning;
+use console::words::is_argument;
+use console::words::say;
+use console::words::say_number;
+
+fn say_fault(file: i32, number: u8, place: usize) {
+    say(file, b"fault ");
+    say_number(file, number as u64);
+    say(file, b" at byte ");
+    say_number(file, place as u64);
+    say(file, b": ");
+    say_meaning(file, number);
+    say(file, b"\n");
+}
+
+// The last line of a listing.
+fn list_end(number: u8, place: usize) {
+    if number == 0 {
+        say(1, b"no fault\n");
+    } else {
+        say_fault(1, number, place);
+    }
+}
+
+// The file in words.
+fn list(file: &[u8]) {
+    say_number(1, file.len() as u64);
+    say(1, b" bytes\n");
+    let place = listing::show(false, file);
+    list_end(format::read(file).number(), place);
+}
+
+// A fault stands in the graph as a comment; it is told on standard error too, since a graph goes to another program.
+fn draw_end(number: u8, place: usize) {
+    if number != 0 {
+        say(1, b"  // ");
+        say_fault(1, number, place);
+        say_fault(2, number, place);
+    }
+    say(1, b"}\n");
+}
+
+// The file as a graph.
+fn draw(file: &[u8]) {
+    say(
+        1,
+        b"digraph automaton {\n  rankdir=LR;\n  node [shape=circle];\n  start [shape=point];\n  start -> 0;\n",
+    );
+    let place = listing::show(true, file);
+    draw_end(format::read(file).number(), place);
+}
+
+fn run_on(graph: bool, file: &[u8], n: usize) {
+    if file.len() < n {
+        return;
+    }
+    if graph {
+        draw(&file[0..n]);
+    } else {
+        list(&file[0..n]);
+    }
+}
+
+fn run(graph: bool, argument: usize) {
+    let mut file = [0u8; 41293];
+    let Loaded::Bytes(n) = load(argument, &mut file) else {
+        return;
+    };
+    run_on(graph, &file, n);
+}
+
+fn main() {
+    let count = os::arg_count();
+    if count == 3 && is_argument(1, b"--dot") {
+        run(true, 2);
+    } else if count == 2 {
+        run(false, 1);
+    } else {
+        say(2, b"usage: bookshow [--dot] FILE\n");
+    }
+}
