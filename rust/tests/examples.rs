@@ -1,0 +1,94 @@
+//! The automata of examples/: each accepts and rejects the words that its list says, also when it is unfolded.
+
+use registered_automata as engine;
+use std::path::{Path, PathBuf};
+
+fn folder() -> PathBuf {
+    Path::new(env!("CARGO_MANIFEST_DIR")).join("../examples")
+}
+
+fn file(name: &str) -> Vec<u8> {
+    std::fs::read(folder().join(name).with_extension("mlb")).expect("the example's file")
+}
+
+/// The names of all examples.
+fn names() -> Vec<String> {
+    let mut names = Vec::new();
+    for entry in std::fs::read_dir(folder()).expect("the folder of examples") {
+        let path = entry.expect("an entry of the folder").path();
+        if path.extension().is_some_and(|e| e == "mlb") {
+            names.push(
+                path.file_stem()
+                    .expect("a name")
+                    .to_string_lossy()
+                    .into_owned(),
+            );
+        }
+    }
+    names.sort();
+    names
+}
+
+/// The words of an example, each with whether it is to be accepted.
+fn words(name: &str) -> Vec<(bool, Vec<u8>)> {
+    let list =
+        std::fs::read(folder().join(name).with_extension("words")).expect("its list of words");
+    let lines = list.split(|b| *b == b'\n').filter(|line| !line.is_empty());
+    lines
+        .map(|line| (line[0] == b'+', line[1..].trim_ascii().to_vec()))
+        .collect()
+}
+
+fn unfolded(file: &[u8]) -> Vec<u8> {
+    let mut out = vec![0; engine::LONGEST_FILE];
+    let n =
+        engine::unfold(file, &mut engine::working_words(), &mut out).expect("within the limits");
+    out.truncate(n);
+    out
+}
+
+fn compared(first: &[u8], second: &[u8]) -> engine::Comparison {
+    let mut word = [0; engine::WORD_BYTES];
+    engine::compare(first, second, &mut engine::working_words(), &mut word)
+        .expect("within the limits")
+}
+
+#[test]
+fn words_are_accepted_and_rejected_as_their_lists_say() {
+    for name in names() {
+        for file in [file(&name), unfolded(&file(&name))] {
+            for (accepted, word) in words(&name) {
+                let answer = engine::accepts(&file, &word, &mut engine::working_words())
+                    .expect("within the limits");
+                assert_eq!(
+                    answer.accepted,
+                    accepted,
+                    "{name}: {}",
+                    String::from_utf8_lossy(&word)
+                );
+            }
+        }
+    }
+}
+
+#[test]
+fn unfolding_keeps_every_word() {
+    for name in names() {
+        let file = file(&name);
+        assert!(
+            matches!(
+                compared(&file, &unfolded(&file)),
+                engine::Comparison::Same { .. }
+            ),
+            "{name}"
+        );
+    }
+}
+
+#[test]
+fn three_states_and_two_registers_are_enough() {
+    assert!(matches!(
+        compared(&file("plain"), &file("three_states")),
+        engine::Comparison::Same { .. }
+    ));
+}
