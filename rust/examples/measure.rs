@@ -1,0 +1,72 @@
+//! measure engine|plain CALL REPEATS FIRST [SECOND]: makes one call so many times, and prints the best time of one in nanoseconds.
+//!
+//! CALL is read, accepts, unfold, union, concatenate, intersect, close or compare. SECOND is the second file; for accepts
+//! it is a number: the word is so many letters, in turn. bench/run counts the instructions of a call with it.
+
+#[path = "../tests/common/plain.rs"]
+#[allow(dead_code)]
+mod plain;
+
+use registered_automata as engine;
+use std::hint::black_box;
+use std::time::Instant;
+
+/// The answer is used, so that no call is left out.
+fn finish<T>(answer: T) {
+    let _ = black_box(answer);
+}
+
+/// So many letters of the file, in turn.
+fn word(file: &[u8], length: usize) -> Vec<u8> {
+    let letters = &file[12..12 + file[5] as usize];
+    letters.iter().copied().cycle().take(length).collect()
+}
+
+fn main() {
+    let arguments: Vec<String> = std::env::args().skip(1).collect();
+    let [side, call, repeats, first, rest @ ..] = &arguments[..] else {
+        panic!("measure engine|plain CALL REPEATS FIRST [SECOND]");
+    };
+    let repeats: u32 = repeats.parse().expect("a number of repeats");
+    let file = std::fs::read(first).expect("the first file");
+    let other = rest.first().map_or(String::new(), String::clone);
+    let second = if call == "accepts" {
+        word(&file, other.parse().expect("the length of the word"))
+    } else if other.is_empty() {
+        Vec::new()
+    } else {
+        std::fs::read(other).expect("the second file")
+    };
+    let mut work = engine::working_words();
+    let mut out = vec![0u8; 60_000];
+    let mut once: Box<dyn FnMut()> = match (side.as_str(), call.as_str()) {
+        ("engine", "read") => Box::new(|| finish(engine::read(&file))),
+        ("engine", "accepts") => Box::new(|| finish(engine::accepts(&file, &second, &mut work))),
+        ("engine", "unfold") => Box::new(|| finish(engine::unfold(&file, &mut work, &mut out))),
+        ("engine", "union") => Box::new(|| finish(engine::union(&file, &second, &mut out))),
+        ("engine", "concatenate") => {
+            Box::new(|| finish(engine::concatenate(&file, &second, &mut out)))
+        }
+        ("engine", "intersect") => Box::new(|| finish(engine::intersect(&file, &second, &mut out))),
+        ("engine", "close") => Box::new(|| finish(engine::close(&file, &mut out))),
+        ("engine", "compare") => {
+            Box::new(|| finish(engine::compare(&file, &second, &mut work, &mut out)))
+        }
+        ("plain", "read") => Box::new(|| finish(plain::read(&file))),
+        ("plain", "accepts") => Box::new(|| finish(plain::accepts(&file, &second, 8192))),
+        ("plain", "unfold") => Box::new(|| finish(plain::unfold(&file, 8192, 60_000))),
+        ("plain", "union") => Box::new(|| finish(plain::union(&file, &second, 60_000))),
+        ("plain", "concatenate") => Box::new(|| finish(plain::concatenate(&file, &second, 60_000))),
+        ("plain", "intersect") => Box::new(|| finish(plain::intersect(&file, &second, 60_000))),
+        ("plain", "close") => Box::new(|| finish(plain::close(&file, 60_000))),
+        ("plain", "compare") => Box::new(|| finish(plain::compare(&file, &second, 8192, 512))),
+        _ => panic!("no such call: {side} {call}"),
+    };
+    let mut best = u128::MAX;
+    for _ in 0..repeats {
+        let begin = Instant::now();
+        once();
+        best = best.min(begin.elapsed().as_nanos());
+    }
+    println!("{best}");
+}
