@@ -1,5 +1,4 @@
 // Words and numbers to an open file, 1 being standard output and 2 standard error; words among the arguments.
-ghost use mathlib.Core.Path.{_≡_};
 
 pub fn say(file: i32, text: &[u8]) {
     io::write_all(file, text);

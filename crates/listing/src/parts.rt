@@ -65,24 +65,25 @@ fn flags_front(flags: &[u8]) -> usize
     i
 }
 
-// A final state: its number, in a graph as a node.
-fn say_final(graph: bool, state: usize) {
+// A state: in a graph a node, in a listing its number where it is final.
+fn say_state(graph: bool, state: usize, is_final: bool) {
     if graph {
         say(1, b"  ");
         say_number(1, state as u64);
-        say(1, b" [shape=doublecircle];\n");
-    } else {
+        if is_final {
+            say(1, b" [shape=doublecircle]");
+        }
+        say(1, b";\n");
+    } else if is_final {
         say(1, b" ");
         say_number(1, state as u64);
     }
 }
 
-fn say_finals(graph: bool, flags: &[u8]) {
+fn say_states(graph: bool, flags: &[u8]) {
     let mut i: usize = 0;
     while i < flags.len() {
-        if flags[i] == 1 {
-            say_final(graph, i);
-        }
+        say_state(graph, i, flags[i] == 1);
         i += 1;
     }
 }
@@ -93,12 +94,12 @@ pub fn show_states(graph: bool, flags: &[u8]) -> usize
 {
     let n = flags_front(flags);
     if graph {
-        say_finals(true, &flags[0..n]);
+        say_states(true, &flags[0..n]);
     } else {
         say(1, b"states: numbers below ");
         say_number(1, flags.len() as u64);
-        say(1, b", initial 0, final");
-        say_finals(false, &flags[0..n]);
+        say(1, b", initial 0\nfinal states:");
+        say_states(false, &flags[0..n]);
         say(1, b"\n");
     }
     n
