@@ -1,0 +1,25 @@
+// refusals: writes what each refusal's number means, one a line.
+use console::refusals::say_meaning;
+use console::words::say;
+use console::words::say_number;
+
+fn is_refusal(number: u8) -> bool {
+    (number >= 1 && number <= 11) || (number >= 21 && number <= 25)
+}
+
+fn say_refusal(number: u8) {
+    if is_refusal(number) {
+        say_number(1, number as u64);
+        say(1, b" ");
+        say_meaning(1, number);
+        say(1, b"\n");
+    }
+}
+
+fn main() {
+    let mut number: u8 = 0;
+    while number < 26 {
+        say_refusal(number);
+        number += 1;
+    }
+}
