@@ -9,7 +9,7 @@ use lib.Dec.{T, eqb}
 use lib.ListN.{drop, getD, getElem?, length}
 use Rattle.automata.specs.Automaton.{Automaton, letters}
 use Rattle.automata.specs.Live.{live, liveFrom, meets}
-use Rattle.automata.specs.Pairs.{Pair, difference, different, differs, firstAccepts, judged, onward, pairOf, pairs, same, samePair, secondAccepts, shown, takerOf, verdict}
+use Rattle.automata.specs.Pairs.{Pair, difference, different, differs, firstAccepts, judged, onward, pairOf, pairs, samePair, secondAccepts, shown, takerOf, verdict}
 use Rattle.automata.specs.Search.{Entry, entries, firstOf}
 use Rattle.automata.specs.Unfolding.{configurations, finalSet, liveSet, plainArcs}
 use Rattle.automata.proofs.ListLaws.{getElem?-lt, getElem?-some}

@@ -1,6 +1,5 @@
 -- Verdicts: the answer for two automata within the limits, from the verdict: 23, Same or Different (document 01, 'Comparing').
 use mathlib.Core.Path.{_∙_, _≡_, ap, refl, subst, sym}
-use mathlib.Core.Bool.{Bool}
 use mathlib.Core.List.{List, [], _++_, map}
 use Prim.Native.Nat.{ℕ, _≤_, _<_}
 use borrow.Author.Tests.{le-ltb, lt-ltb}
@@ -12,7 +11,6 @@ use Rattle.automata.proofs.Laws.{comparing}
 use Rattle.compare.specs.Answers.{Answers, pairTest}
 use Rattle.compare.specs.Compares.{Shown}
 use Rattle.compare.specs.Comparing.{answerAt, comparedAt, unlessRefused}
-use Rattle.compare.specs.declared.Comparison.{Comparison}
 use Rattle.compare.specs.declared.Comparison.the-variants.{Different, Refused, Same}
 use Rattle.compare.proofs.ShownBytes.{bytes-spell, oneTwo, shown-taker, shows-shown}
 

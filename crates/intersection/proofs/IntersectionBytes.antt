@@ -9,7 +9,7 @@ use Rattle.automata.specs.Joins.{arcLeft, arcRight, bothArcs, bothFinal, inters
 use Rattle.format.specs.declared.Counts.{Counts}
 use Rattle.format.specs.Encoding.{arcsBytes, bytesOf, flagByte, headerBytes, sizes}
 use Rattle.writing.proofs.ArcBytes.{ops-unmoved}
-use Rattle.joining.proofs.Walking.{arcs-append}
+use Rattle.writing.proofs.FileParts.{arcs-append}
 use Rattle.intersection.specs.declared.beside.Beside.{Beside}
 use Rattle.intersection.specs.Pairing.{besideArc, emptyWith, jointWith}
 use Rattle.intersection.proofs.FlagLaws.{both-length}

@@ -12,8 +12,8 @@ use Rattle.automata.specs.Lists.{any, countFrom}
 use Rattle.automata.specs.Automaton.{Arc}
 use Rattle.format.specs.Encoding.{arcBytes, arcsBytes}
 use Rattle.writing.proofs.ArcBytes.{arc-length}
+use Rattle.writing.proofs.FileParts.{arcs-append}
 use Rattle.joining.specs.Joining.{manyOps}
-use Rattle.joining.proofs.Walking.{arcs-append}
 use Rattle.intersection.specs.declared.counting.Tally.{Tally}
 use Rattle.intersection.specs.Pairing.{Tallied}
 

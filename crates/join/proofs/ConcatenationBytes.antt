@@ -12,10 +12,10 @@ use Rattle.format.specs.declared.Counts.{Counts}
 use Rattle.format.specs.Encoding.{arcsBytes, bytesOf, flagByte, headerBytes, sizes}
 use Rattle.format.specs.Reading.{firstArc}
 use Rattle.file_laws.proofs.EncodingLaws.{bytes-length}
-use Rattle.joining.proofs.Walking.{arcs-append, arcs-moved-length, returning-length}
+use Rattle.joining.proofs.Walking.{arcs-moved-length, returning-length}
 use Rattle.joining.proofs.MovedFits.{empty-moves, unmoved}
 use Rattle.joining.proofs.FinalLaws.{returning}
-use Rattle.join.proofs.JoinedBytes.{bytes-from}
+use Rattle.writing.proofs.FileParts.{arcs-append, bytes-from}
 
 -- the flags of states that are not final
 zero-flags : (n : ℕ) → map flagByte (replicate n false) ≡ replicate n 0

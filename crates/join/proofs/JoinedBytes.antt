@@ -1,5 +1,5 @@
 -- JoinedBytes: the bytes of a joined automaton, part by part in the order in which they are written, and how many they are.
-use mathlib.Core.Path.{_∙_, _≡_, ap, sym, refl}
+use mathlib.Core.Path.{_∙_, _≡_, ap, refl}
 use mathlib.Core.List.{List, [], _++_, _∷_, append-assoc, map}
 use Prim.Native.Nat.{_*_, _+_, ℕ, max}
 use native.Mathlib.Omega.{arith}
@@ -12,14 +12,10 @@ use Rattle.format.specs.declared.Counts.{Counts}
 use Rattle.format.specs.Encoding.{arcBytes, arcsBytes, bytesOf, flagByte, headerBytes, sizes}
 use Rattle.format.specs.Reading.{firstArc}
 use Rattle.file_laws.proofs.EncodingLaws.{bytes-length}
-use Rattle.joining.proofs.Walking.{arcs-append, arcs-moved-length, entry-length, returning-length}
+use Rattle.joining.proofs.Walking.{arcs-moved-length, entry-length, returning-length}
 use Rattle.joining.proofs.MovedFits.{moved-states}
 use Rattle.joining.proofs.FinalLaws.{returning}
-
--- ---- any automaton, once its flags are known part by part
-pub bytes-from : (x : Automaton) → bytesOf x ≡ (headerBytes (sizes x) ++ x .alphabet) ++ (map flagByte (x .finals) ++ arcsBytes (x .arcs))
-unfolding bytesOf
-bytes-from x = sym (append-assoc (headerBytes (sizes x)) (x .alphabet) (map flagByte (x .finals) ++ arcsBytes (x .arcs)))
+use Rattle.writing.proofs.FileParts.{arcs-append, bytes-from}
 
 -- ---- union
 module _ (a b : Automaton) where

@@ -1,18 +1,16 @@
 -- AnswerLaws: what the answer for a joined automaton says: 11, 25 or its length, each exactly where it holds.
-use mathlib.Core.Path.{_∙_, _≡_, refl, ap₂, sym}
+use mathlib.Core.Path.{_≡_, refl, ap₂, sym}
 use mathlib.Core.Bool.{Bool, false, true}
-use mathlib.Core.List.{List, _++_}
-use Prim.Native.Nat.{_+_, _≤_, ℕ}
+use Prim.Native.Nat.{_≤_, ℕ}
 use native.Mathlib.Omega.{arith}
 use borrow.Author.Tests.{leb-true}
 use lib.Dec.{leb}
-use lib.ListN.{drop, length}
+use lib.ListN.{length}
 use Rattle.automata.specs.Automaton.{Automaton}
 use Rattle.format.specs.declared.Counts.{Counts}
 use Rattle.format.specs.Encoding.{bytesOf, sizes}
 use Rattle.automata.specs.Lists.{Each}
 use Rattle.writing.specs.declared.Written.the-variants.{Bytes}
-use Rattle.writing.specs.Placing.{Appended}
 use Rattle.joining.specs.Joining.{beyond, writtenOf, decided, manyCounts}
 use Rattle.joining.proofs.Limits.{FewOps, beyond-counts}
 
@@ -36,7 +34,3 @@ module _ (x : Automaton) (space : ℕ) where
   pub decided-written : (c : Counts) (size : ℕ) → Each FewOps (x .arcs) → sizes x ≡ c → length (bytesOf x) ≡ size → decided (manyCounts c) size space ≡ writtenOf x space
   unfolding writtenOf
   decided-written c size h n l = sym (rw (beyond-counts x h) (ap₂ (λ (d : Counts) (m : ℕ). decided (manyCounts d) m space) n l))
-
--- the output after a file was written at its front
-pub file-written : {file old out : List ℕ} {next : ℕ} → Appended 0 file old out next → out ≡ file ++ drop (length file) old
-file-written {file} w = let e : 0 + length file ≡ length file = omega arith in w .output ∙ rw e

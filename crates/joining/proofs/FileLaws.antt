@@ -3,10 +3,10 @@ use mathlib.Core.Path.{_≡_, refl, sym, ap, _∙_}
 use mathlib.Core.Logic.{_≢_}
 use mathlib.Core.Bool.{Bool, true, false, _&&_}
 use mathlib.Core.List.{List}
-use Prim.Native.Nat.{ℕ, suc, _<_, _≤_, _+_, _-_}
+use Prim.Native.Nat.{ℕ, suc, _<_, _≤_}
 use native.Mathlib.Omega.{arith}
 use lib.Dec.{T, eqb}
-use lib.ListN.{length, getD, drop, drop-of-length-le, take}
+use lib.ListN.{length, getD, drop, drop-of-length-le}
 use lib.Seq.{drop-cons}
 use Rattle.automata.specs.Lists.{sameBy}
 use Rattle.automata.specs.Automaton.{Automaton}
@@ -16,10 +16,9 @@ use Rattle.format.specs.declared.Counts.{Counts}
 use Rattle.format.specs.declared.Reading.{Reading}
 use Rattle.format.specs.declared.Reading.the-variants.{Valid, Refused as Faulty}
 use Rattle.format.specs.Reading.{readingOf, letterBytes}
-use Rattle.format.specs.Decoding.{automatonOf, decoded}
-use Rattle.format.specs.Encoding.{headerBytes}
-use Rattle.file_laws.proofs.ValidLaws.{valid-decoded}
+use Rattle.format.specs.Decoding.{automatonOf}
 use Rattle.writing.specs.declared.Written.the-variants.{Refused}
+use Rattle.writing.proofs.FileParts.{valid-alphabet}
 use Rattle.joining.specs.declared.files.Files.the-variants.{Both, Fault}
 use Rattle.joining.specs.Joining.{sameLetters, paired, filesOf, Joinable, joinedOf, writtenOf, closedOf}
 
@@ -38,19 +37,6 @@ same-lists l r t = sameBy-iff eqb eqb-iff l r .0 t
 
 pub other-lengths : (l r : List ℕ) → length l ≢ length r → sameBy eqb l r ≡ false
 other-lengths l r h = bool-ext (sameBy eqb l r) false (λ t. h (ap length (same-lists l r t))) (λ t. absurd t)
-
--- ---- the header and the letters of valid files
-pub header-length : (c : Counts) → length (headerBytes c) ≡ 12
-unfolding headerBytes
-header-length c = refl
-
-pub valid-alphabet : (s : List ℕ) (c : Counts) → readingOf s ≡ Valid c → automatonOf s .alphabet ≡ letterBytes c s
-unfolding decoded
-valid-alphabet s c e = ap (λ (x : Automaton). x .alphabet) (valid-decoded s c e)
-
--- `&s[12..12 + letters]`
-pub lent-letters : (c : Counts) (s : List ℕ) → take (12 + c .letters - 12) (drop 12 s) ≡ letterBytes c s
-lent-letters c s = let e : 12 + c .letters - 12 ≡ c .letters = omega arith in rw e
 
 pub valid-files : (s t : List ℕ) {a b : Counts} → readingOf s ≡ Valid a → readingOf t ≡ Valid b → filesOf s t ≡ paired (Valid a) (Valid b) (sameBy eqb (letterBytes a s) (letterBytes b t))
 unfolding filesOf sameLetters

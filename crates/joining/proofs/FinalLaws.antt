@@ -21,7 +21,7 @@ use Rattle.file_laws.proofs.ValidLaws.{file-seen, valid-decoded, valid-sizes}
 use Rattle.file_laws.proofs.CanonicalLaws.{flags-same}
 use Rattle.writing.specs.Placing.{Appended}
 use Rattle.writing.proofs.Placed.{appended-length}
-use Rattle.joining.proofs.FileLaws.{header-length}
+use Rattle.writing.proofs.FileParts.{header-length}
 
 -- an arc from state number i, moved by s, to t, which writes 0 to the registers 1 to n - 1
 abbrev pub returning : ℕ → ℕ → ℕ → ℕ → Arc

@@ -1,7 +1,7 @@
 -- Walking: the arcs of a valid file, one behind the other, as loops meet them, and the bytes of arcs made of them.
 use mathlib.Core.Path.{_∙_, _≡_, refl, sym}
 use mathlib.Core.Bool.{Bool, true}
-use mathlib.Core.List.{List, [], _++_, _∷_, append-assoc, map}
+use mathlib.Core.List.{List, [], _++_, _∷_, map}
 use Prim.Native.Nat.{_+_, _-_, _<_, _≤_, suc, zero, ℕ, _*_}
 use native.Mathlib.Nat.{add-zero, suc-mul, zero-mul}
 use native.Mathlib.Omega.{arith}
@@ -85,12 +85,6 @@ module _ (c : Counts) (s : List ℕ) (m i from : ℕ) where
   pub mapped-none : (f : Arc → Arc) → m ≤ i → arcsBytes (map f (arcsOf (m - i) here)) ≡ []
   unfolding arcsBytes
   mapped-none f h = rw (arcs-none h)
-
--- ---- the bytes of arcs
-pub arcs-append : (l r : List Arc) → arcsBytes (l ++ r) ≡ arcsBytes l ++ arcsBytes r
-unfolding arcsBytes
-arcs-append [] r = refl
-arcs-append (x ∷ l) r = rw (arcs-append l r) (sym (append-assoc (arcBytes x) (arcsBytes l) (arcsBytes r)))
 
 -- an arc that is read from a place takes as many bytes as it took there, with other states and registers too
 pub read-length : (l : List ℕ) → length (arcBytes (arcOf l)) ≡ arcSize l

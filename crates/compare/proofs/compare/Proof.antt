@@ -1,6 +1,6 @@
 -- `compare::compare` meets its contract: each way out is a case of the definition, test after test (Checking).
 use borrow.Author.Needs.{needs}
-use mathlib.Core.Path.{_∙_, _≡_, refl, sym}
+use mathlib.Core.Path.{_∙_, refl, sym}
 use native.Mathlib.Omega.{arith}
 use lib.ListN.{length}
 use Rattle.joining.specs.Joining.{Joinable}

@@ -12,7 +12,7 @@ use Rattle.format.specs.Encoding.{sizes}
 use Rattle.file_laws.proofs.ValidLaws.{valid-ranges, valid-sizes, valid-fits}
 use Rattle.joining.specs.Joining.{writtenOf}
 use Rattle.joining.proofs.FinalLaws.{valid-lengths}
-use Rattle.joining.proofs.AnswerLaws.{decided-written, file-written, written-bytes}
+use Rattle.joining.proofs.AnswerLaws.{decided-written, written-bytes}
 use Rattle.intersection.proofs.IntersectionBytes.{intersection-counts}
 use Rattle.intersection.proofs.IntersectionFits.{intersection-fits}
 use Rattle.file_laws.proofs.EncodingLaws.{bytes-length}
@@ -25,6 +25,7 @@ use Rattle.intersection.proofs.counting.count_arcs.Reads as count-arcs-
 use Rattle.intersection.proofs.product_counts.Reads as product-counts-reads
 use Rattle.intersection.proofs.write_product.Reads as write-product-reads
 use Rattle.joining.proofs.answer.decide.Reads as decide-reads
+use Rattle.writing.proofs.FileParts.{file-written}
 
 -- the intersection, its counts, and that these are small
 abbrev joined : tie.Start → Automaton

@@ -10,8 +10,8 @@ use Rattle.format.specs.Decoding.{automatonOf}
 use Rattle.format.specs.Encoding.{arcsBytes, flagByte, bytesOf, headerBytes}
 use Rattle.format.specs.Limits.{Ranges}
 use Rattle.writing.proofs.Placed.{written-then, appended-ends}
+use Rattle.writing.proofs.FileParts.{header-length}
 use Rattle.joining.proofs.FinalLaws.{valid-lengths, front-ends}
-use Rattle.joining.proofs.FileLaws.{header-length}
 use Rattle.intersection.proofs.FlagLaws.{flags-length}
 use Rattle.intersection.proofs.IntersectionBytes.{intersection-parts, intersection-counts}
 use Rattle.intersection.proofs.write_product.Statement.{statement}

@@ -5,7 +5,7 @@ use Rattle.pairs.specs.Map.{parents}
 use Rattle.shown.specs.Spelled.{spelled}
 use mathlib.Core.List.{List}
 use lib.ListN.{length}
-use Prim.Native.Nat.{ℕ, _+_, _-_, _/_, _≤_, _<_}
+use Prim.Native.Nat.{ℕ, _+_, _/_, _≤_, _<_}
 use native.Mathlib.Omega.{arith}
 use mathlib.Core.Path.{_≡_, sym, ap, _∙_}
 use Rattle.shown.proofs.word_length.Statement.{statement}

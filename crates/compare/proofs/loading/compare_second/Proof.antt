@@ -10,7 +10,6 @@ use Rattle.explore.specs.declared.Explored.the-variants.{Tables}
 use Rattle.format.specs.Decoding.{automatonOf}
 use Rattle.format.proofs.Steps.{letters-length}
 use Rattle.file_laws.proofs.ValidLaws.{valid-letters, valid-wellFormed}
-use Rattle.joining.proofs.FileLaws.{lent-letters, valid-alphabet}
 use Rattle.pairs.specs.Map.{firstBlock, secondBlock}
 use Rattle.table.specs.Words.{Ready}
 use Rattle.table.proofs.Accepting.{valid-few, valid-walkable}
@@ -21,6 +20,7 @@ use Rattle.compare.proofs.Checking.{arcs-many, configurations-many, wit
 use Rattle.compare.proofs.LoadedLaws.{built-answer, built-file, loaded, loaded-kept}
 use Rattle.compare.proofs.loading.compare_second.Statement.{statement}
 use Rattle.compare.proofs.loading.compare_second.Tie as tie
+use Rattle.writing.proofs.FileParts.{lent-letters, valid-alphabet}
 
 -- building's call
 abbrev start : tie.After-build → tie.Start

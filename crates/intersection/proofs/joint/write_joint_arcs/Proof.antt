@@ -8,7 +8,8 @@ use Rattle.format.specs.Decoding.{arcOf, arcsOf, automatonOf}
 use Rattle.format.specs.Encoding.{arcsBytes}
 use Rattle.file_laws.proofs.ValidLaws.{valid-arcs, valid-ranges}
 use Rattle.writing.proofs.Placed.{Left, left-all, left-fits, left-less, left-none}
-use Rattle.joining.proofs.Walking.{ArcHere, Walk, walk-here, walk-on, walk-start, arcs-append}
+use Rattle.writing.proofs.FileParts.{arcs-append}
+use Rattle.joining.proofs.Walking.{ArcHere, Walk, walk-here, walk-on, walk-start}
 use Rattle.intersection.specs.Pairing.{jointWith}
 use Rattle.intersection.proofs.ArcsOf.{flat-next, flat-none}
 use Rattle.intersection.proofs.Numbering.{row-below}

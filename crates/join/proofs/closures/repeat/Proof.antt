@@ -14,7 +14,7 @@ use Rattle.joining.specs.Joining.{writtenOf}
 use Rattle.join.proofs.closures.repeat.Statement.{statement}
 use Rattle.join.proofs.JoinedBytes.{closure-counts, closure-length}
 use Rattle.join.proofs.JoinedFits.{closure-fits, closure-ops}
-use Rattle.joining.proofs.AnswerLaws.{decided-written, file-written, written-bytes}
+use Rattle.joining.proofs.AnswerLaws.{decided-written, written-bytes}
 use Rattle.joining.proofs.FinalLaws.{valid-lengths}
 use Rattle.join.proofs.closures.repeat.Tie as tie
 use Rattle.join.proofs.closures.repeat.Reads as reads
@@ -25,6 +25,7 @@ use Rattle.join.proofs.closures.closure_counts.Reads as closure-counts-
 use Rattle.join.proofs.closures.return_size.Reads as return-size-reads
 use Rattle.join.proofs.closures.write_closure.Reads as write-closure-reads
 use Rattle.joining.proofs.finals.count_finals.Reads as count-finals-reads
+use Rattle.writing.proofs.FileParts.{file-written}
 
 -- the automaton, and the counts of its closure
 abbrev joined : tie.Start → Automaton

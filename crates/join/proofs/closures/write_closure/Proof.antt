@@ -14,7 +14,6 @@ use Rattle.writing.proofs.Placed.{appended-ends, written-then}
 use Rattle.join.proofs.closures.write_closure.Statement.{statement}
 use Rattle.join.proofs.JoinedBytes.{closure-counts, closure-parts}
 use Rattle.joining.proofs.FinalLaws.{flags-end, front-ends, valid-lengths}
-use Rattle.joining.proofs.FileLaws.{header-length}
 use Rattle.join.proofs.closures.write_closure.Tie as tie
 use Rattle.join.proofs.closures.write_closure.Reads as reads
 use Rattle.join.proofs.closures.write_closure.Lts as lts
@@ -22,6 +21,7 @@ use Rattle.join.proofs.closures.write_closure_arcs.Reads as write-closu
 use Rattle.joining.proofs.front.write_flags.Reads as write-flags-reads
 use Rattle.joining.proofs.front.write_front.Reads as write-front-reads
 use Rattle.writing.proofs.parts.write_byte.Reads as write-byte-reads
+use Rattle.writing.proofs.FileParts.{header-length}
 
 -- the parts, and room for them
 abbrev parts : (s : tie.Start) → let x = automatonOf (s .args .file .now) in

@@ -10,7 +10,7 @@ use Rattle.format.specs.Decoding.{automatonOf}
 use Rattle.format.specs.Encoding.{sizes}
 use Rattle.file_laws.proofs.ValidLaws.{valid-fits, valid-ranges, valid-sizes}
 use Rattle.joining.specs.Joining.{writtenOf}
-use Rattle.joining.proofs.AnswerLaws.{decided-written, file-written, written-bytes}
+use Rattle.joining.proofs.AnswerLaws.{decided-written, written-bytes}
 use Rattle.joining.proofs.FinalLaws.{valid-lengths}
 use Rattle.join.proofs.concatenations.append.Statement.{statement}
 use Rattle.join.proofs.ConcatenationBytes.{concatenation-counts, concatenation-length}
@@ -23,6 +23,7 @@ use Rattle.join.proofs.concatenations.write_concatenation.Reads as writ
 use Rattle.joining.proofs.answer.arcs_size.Reads as arcs-size-reads
 use Rattle.joining.proofs.answer.decide.Reads as decide-reads
 use Rattle.joining.proofs.finals.count_finals.Reads as count-finals-reads
+use Rattle.writing.proofs.FileParts.{file-written}
 
 -- the automata, and the counts of their concatenation
 abbrev joined : tie.Start → Automaton

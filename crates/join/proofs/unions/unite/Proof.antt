@@ -13,7 +13,7 @@ use Rattle.joining.specs.Joining.{writtenOf}
 use Rattle.join.proofs.unions.unite.Statement.{statement}
 use Rattle.join.proofs.JoinedBytes.{union-counts, union-length}
 use Rattle.joining.proofs.FinalLaws.{valid-lengths}
-use Rattle.joining.proofs.AnswerLaws.{decided-written, file-written, written-bytes}
+use Rattle.joining.proofs.AnswerLaws.{decided-written, written-bytes}
 use Rattle.join.proofs.JoinedFits.{union-fits, union-ops}
 use Rattle.join.proofs.unions.unite.Tie as tie
 use Rattle.join.proofs.unions.unite.Reads as reads
@@ -22,6 +22,7 @@ use Rattle.joining.proofs.answer.arcs_size.Reads as arcs-size-reads
 use Rattle.joining.proofs.answer.decide.Reads as decide-reads
 use Rattle.join.proofs.unions.union_counts.Reads as union-counts-reads
 use Rattle.join.proofs.unions.write_union.Reads as write-union-reads
+use Rattle.writing.proofs.FileParts.{file-written}
 
 -- the automata, and the counts of their union
 abbrev joined : tie.Start → Automaton

@@ -7,13 +7,14 @@ use Rattle.format.specs.Reading.{readingOf}
 use Rattle.file_laws.proofs.ValidLaws.{valid-letters}
 use Rattle.joining.specs.Joining.{filesOf, paired}
 use Rattle.joining.proofs.files.read_files.Statement.{statement}
-use Rattle.joining.proofs.FileLaws.{lent-letters, valid-files}
+use Rattle.joining.proofs.FileLaws.{valid-files}
 use Rattle.joining.proofs.files.read_files.Tie as tie
 use Rattle.joining.proofs.files.read_files.Reads as reads
 use Rattle.joining.proofs.files.read_files.Lts as lts
 use Rattle.format.proofs.Reading.number.Reads as number-reads
 use Rattle.format.proofs.read.Reads as read-reads
 use Rattle.joining.proofs.files.same_bytes.Reads as same-bytes-reads
+use Rattle.writing.proofs.FileParts.{lent-letters}
 
 -- what reading answered, and the letters then
 left-valid : (c : tie.After-known-told2) → readingOf (c .before .before .before .before .before .before .before .before .before .before .args .first .now) ≡ Valid (c .before .before .before .before .before .left .given .0 .0)
