@@ -1,7 +1,7 @@
 -- Views: a set of four words as the list of tests that Live calls a set. These laws are what callers cite.
-use mathlib.Core.Path.{_≡_, refl, sym, ap, ap₂, _∙_}
-use mathlib.Core.Logic.{_↔_}
-use mathlib.Core.Bool.{Bool, false}
+use mathlib.Core.Path.{_≡_, refl, sym, ap, ap₂, subst, _∙_}
+use mathlib.Core.Logic.{_↔_, inl, inr, ⊎-elim}
+use mathlib.Core.Bool.{Bool, false, _||_}
 use mathlib.Core.List.{List, [], _∷_}
 use Prim.Native.Nat.{ℕ, zero, suc, _+_, _-_, _*_, _/_, _%_, _^_, _≤_, _<_}
 use native.Mathlib.Nat.{add-zero}
@@ -11,7 +11,7 @@ use lib.ListN.{length, getD}
 use lib.Seq.{ext-getD}
 use lib.Count.{ones, ones-step}
 use Rattle.automata.specs.Live.{table, in?, count, meets}
-use Rattle.automata.proofs.ListLaws.{bool-ext}
+use Rattle.automata.proofs.ListLaws.{bool-ext, or-iff}
 use Rattle.automata.proofs.LiveLaws.{length-table, in-table}
 use Rattle.automata.proofs.UnfoldingLaws.{meets-iff}
 use Rattle.sets.specs.Sets.{bit, inSet, view, Within}
@@ -50,6 +50,13 @@ meets-view {n} a b {r} w h =
     bool-ext r (meets (view n a) (view n b))
     (λ t. let p = h .0 t in meets-iff (view n a) (view n b) .1 (p .0, in-view n a (p .0) .1 (w (p .0) (p .1), p .1), in-view n b (p .0) .1 (w (p .0) (p .1), p .2)))
     (λ t. let p = meets-iff (view n a) (view n b) .0 t in h .1 (p .0, in-view n a (p .0) .0 (p .1) .1, in-view n b (p .0) .0 (p .2) .1))
+
+-- all members of a are in b just if their union is b
+pub inside-set : (a : List ℕ) {b u : List ℕ} (r : Bool) → Four u → Four b → ((j : ℕ) → inSet u j ≡ (inSet a j || inSet b j)) → T r ↔ (u ≡ b) → T r ↔ ((j : ℕ) → T (inSet a j) → T (inSet b j))
+inside-set a {b} {u} r fu fb is same = (
+  λ t j x. subst T (ap (λ (s : List ℕ). inSet s j) (same .0 t)) (subst T (sym (is j)) (or-iff (inSet a j) (inSet b j) .1 (inl x))),
+  λ f. same .1 (set-ext fu fb (λ j. is j ∙ bool-ext (inSet a j || inSet b j) (inSet b j) (λ t. ⊎-elim (λ x. f j x) (λ x. x) (or-iff (inSet a j) (inSet b j) .0 t)) (λ x. or-iff (inSet a j) (inSet b j) .1 (inr x)))),
+)
 
 -- ---- how many members
 

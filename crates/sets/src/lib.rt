@@ -61,6 +61,14 @@ pub fn same(a: [u64; 4], b: [u64; 4]) -> bool
     (a[0] ^ b[0]) | (a[1] ^ b[1]) | (a[2] ^ b[2]) | (a[3] ^ b[3]) == 0
 }
 
+// Are all members of a in b?
+// Cost: constant.
+pub fn inside(a: [u64; 4], b: [u64; 4]) -> bool
+    ensures { λ r. ⌜ T r ↔ ((j : ℕ) → T (inSet a j) → T (inSet b j)) ⌝ }
+{
+    same(union(a, b), b)
+}
+
 // How many members it has.
 // Cost: constant.
 pub fn size(set: [u64; 4]) -> u32
