@@ -35,13 +35,16 @@ pub block-but : {base a b c d : ℕ} {w w' : List ℕ} → KeptBut a b c d w w' 
 block-but k h s = record { long = k .long; words = λ i l g. ⊎-elim (λ u. k .between i (omega arith) (omega arith)) (λ u. k .above i (omega arith)) s }
 
 -- an end of the listed arcs is a place of the list
-pub end-few : {w : List ℕ} {base count plain : ℕ} (c : ℕ) → Starts w base count plain → endAt w base count plain c ≤ 2048
+pub end-below : {w : List ℕ} {base count plain : ℕ} (c : ℕ) → Starts w base count plain → endAt w base count plain c ≤ plain
 unfolding endAt
-end-few {w} {base} {count} {plain} c s = go (ltb (c + 1) count) refl
+end-below {w} {base} {count} {plain} c s = go (ltb (c + 1) count) refl
   where
-    go : (b : Bool) → ltb (c + 1) count ≡ b → cond (ltb (c + 1) count) (startAt w base (c + 1)) plain ≤ 2048
+    go : (b : Bool) → ltb (c + 1) count ≡ b → cond (ltb (c + 1) count) (startAt w base (c + 1)) plain ≤ plain
     go true e = rw e (s .each (c + 1) (ltb-true (c + 1) count e))
-    go false e = rw e (s .less)
+    go false e = rw e (omega arith)
+
+pub end-few : {w : List ℕ} {base count plain : ℕ} (c : ℕ) → Starts w base count plain → endAt w base count plain c ≤ 2048
+end-few c s = omega (arith, end-below c s, s .less)
 
 module _ {w w' : List ℕ} {base : ℕ} (b : SameBlock base w w') where
   pub arc-kept : (i : ℕ) → i < 2048 → field w' (arcsAt base) i ≡ field w (arcsAt base) i
@@ -67,7 +70,7 @@ module _ {w w' : List ℕ} {base : ℕ} (b : SameBlock base w w') where
   room-kept r = record { block = omega (arith, r .block, b .long); rows = omega (arith, r .rows, b .long); apart = r .apart }
 
   pub starts-kept : {count plain : ℕ} → Starts w base count plain → Starts w' base count plain
-  starts-kept s = record { few = s .few; less = s .less; each = λ c h. omega (arith, start-kept c (omega (arith, s .few)), s .each c h) }
+  starts-kept {count} {plain} s = record { few = s .few; less = s .less; each = λ c h. omega (arith, start-kept c (omega (arith, s .few)), s .each c h); rises = λ c h. omega (arith, start-kept c (omega (arith, s .few)), end-kept count plain c (s .few), s .rises c h) }
 
   pub among-kept : (from to p j : ℕ) → to ≤ 2048 → Among w' base from to p j ↔ Among w base from to p j
   among-kept from to p j h = (

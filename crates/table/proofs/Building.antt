@@ -34,7 +34,7 @@ use Rattle.sets.specs.Rows.{Link, Closure, here, next, related, row}
 use Rattle.sets.proofs.Laws.{view-is}
 use Rattle.table.specs.Stepping.{Among, endAt, startAt}
 use Rattle.table.specs.Words.{Built, Stored}
-use Rattle.table.proofs.PlainPlaces.{before-le, source-at}
+use Rattle.table.proofs.PlainPlaces.{before-le, before-rises, source-at}
 
 -- ---- fields
 countFrom-at : (i n j : ℕ) → j < n → getElem? (countFrom i n) j ≡ some (i + j)
@@ -136,7 +136,7 @@ module _ (x : Automaton) (L : ℕ) (fits : length (configurations x L) ≤ L) {w
     ended = rw many fits;
     rows = rows-run;
     held = λ h. record { within = inside; covers = covers short h };
-    starts = λ h. record { few = few; less = h; each = λ c l. omega (arith, start-is h c l, before-le x (configurations x L) 0 (configurations x L) c) };
+    starts = λ h. record { few = few; less = h; each = λ c l. omega (arith, start-is h c l, before-le x (configurations x L) 0 (configurations x L) c); rises = λ c l. omega (arith, start-is h c l, end-is h c l, before-rises x (configurations x L) 0 (configurations x L) c) };
   }
 
 -- ---- from the answer of exploring

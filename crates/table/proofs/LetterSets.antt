@@ -31,7 +31,7 @@ pub set-off : (w : List ℕ) (acc met l : ℕ) → bit met l ≡ false → 0 ∷
 unfolding setOf
 set-off w acc met l e = rw e
 
-same-sets : (w w' : List ℕ) (acc met met' p : ℕ) → bit met' p ≡ bit met p → row w' acc p ≡ row w acc p → setOf w' acc met' p ≡ setOf w acc met p
+pub same-sets : (w w' : List ℕ) (acc met met' p : ℕ) → bit met' p ≡ bit met p → row w' acc p ≡ row w acc p → setOf w' acc met' p ≡ setOf w acc met p
 unfolding setOf
 same-sets w w' acc met met' p e f = ap₂ (λ (b : Bool) (s : List ℕ). cond b s (0 ∷ 0 ∷ 0 ∷ 0 ∷ [])) e f
 

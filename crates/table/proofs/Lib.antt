@@ -1,6 +1,8 @@
 pub mod LetterSets
 pub mod BlockFrame
 pub mod Visiting
+pub mod Thinning
+pub mod Pruned
 pub mod FileVisits
 pub mod Onward
 pub mod PlainPlaces

@@ -38,6 +38,12 @@ module _ (x : Automaton) (all : List Configuration) where
   before-le i [] (suc s) = zero-le
   before-le i (c ∷ cs) (suc s) = simp length-append (omega (arith, before-le (suc i) cs s))
 
+  pub before-rises : (i : ℕ) (cs : List Configuration) (s : ℕ) → before i cs s ≤ before i cs (suc s)
+  unfolding plainAll
+  before-rises i cs zero = zero-le
+  before-rises i [] (suc s) = zero-le
+  before-rises i (c ∷ cs) (suc s) = simp length-append (omega (arith, before-rises (suc i) cs s))
+
   low : (i : ℕ) (cs : List Configuration) (n : ℕ) {a : PlainArc} → getElem? (plainAll x all i cs) n ≡ some a → i ≤ a .source
   unfolding plainAll
   low i [] n e = none-some refl e

@@ -18,11 +18,11 @@ use Rattle.table.specs.Stepping.{Among, Room, setOf}
 use Rattle.table.proofs.BlockFrame.{SameBlock, arc-kept, block-kept, related-kept}
 
 -- the end of the list moved
-upto : {w : List ℕ} {base from to p j : ℕ} (y : ℕ) (a : Among w base from to p j) → a .at < y → Among w base from y p j
+pub upto : {w : List ℕ} {base from to p j : ℕ} (y : ℕ) (a : Among w base from to p j) → a .at < y → Among w base from y p j
 upto y a g = record { at = a .at; low = a .low; high = g; letter = a .letter; leads = a .leads }
 
 -- one arc more: it is that arc, or one before it
-among-split : {w : List ℕ} {base from : ℕ} (k : ℕ) {p j : ℕ} → Among w base from (k + 1) p j
+pub among-split : {w : List ℕ} {base from : ℕ} (k : ℕ) {p j : ℕ} → Among w base from (k + 1) p j
     → Among w base from k p j ⊎ ((field w (arcsAt base) k / 256 ≡ p) × T (related w base (field w (arcsAt base) k % 256) j))
 among-split {w} {base} {from} k {p} {j} a = go (ℕ-discrete (a .at) k)
   where

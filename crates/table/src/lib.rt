@@ -9,6 +9,7 @@ use words::judge_word;
 pub mod block;
 pub mod file_steps;
 pub mod finals;
+pub mod pruning;
 pub mod stepping;
 pub mod words;
 

@@ -1,0 +1,186 @@
+-- Pruned: of each configuration's listed arcs those that add something are left, one configuration after the other.
+use mathlib.Core.Path.{_∙_, _≡_, ap, refl, sym}
+use mathlib.Core.Logic.{_↔_, _⊎_, inl, inr}
+use mathlib.Core.Bool.{Bool, cond, false, true}
+use mathlib.Core.List.{List}
+use Prim.Native.Nat.{_+_, _/_, _<_, _≤_, ℕ}
+use native.Mathlib.Decide.{decLt, ℕ-discrete}
+use native.Mathlib.Omega.{arith}
+use borrow.Author.Tests.{eq-eqb, le-ltb, lt-ltb, ltb-true, ne-eqb}
+use lib.Dec.{eqb, ltb}
+use Rattle.automata.specs.Automaton.{Automaton, letters}
+use Rattle.automata.specs.Live.{PlainArc}
+use Rattle.automata.proofs.ListLaws.{iff-trans}
+use Rattle.explore.specs.Map.{KeptBut, arcsAt, blockEnd, startsAt}
+use Rattle.explore.proofs.Frames.{but-high, but-same, but-then, but-wider}
+use Rattle.memory.specs.Fields.{field}
+use Rattle.memory.specs.Frame.{Kept}
+use Rattle.memory.proofs.Laws.{field-same}
+use Rattle.table.specs.Stepping.{Among, FromList, Held, Starts, endAt, startAt}
+use Rattle.table.specs.Words.{Built}
+use Rattle.table.proofs.BlockFrame.{end-below}
+use Rattle.table.proofs.Thinning.{SameRows, among-same, rows-kept}
+
+-- the first c configurations have been pruned: what is left of them is listed before `kept`, and tells what was listed
+pub record Pruning (w₀ : List ℕ) (base acc count plain c : ℕ) (w : List ℕ) (kept : ℕ) : Type 0 where
+  pub high : c ≤ count
+  pub frame : KeptBut acc (acc + 256) (arcsAt base) (blockEnd base) w₀ w
+  pub below : kept ≤ plain
+  pub behind : c < count → kept ≤ startAt w₀ base c
+  pub rest : (i : ℕ) → kept ≤ i → i < 2048 → field w (arcsAt base) i ≡ field w₀ (arcsAt base) i
+  pub later : (i : ℕ) → c ≤ i → i < count → startAt w base i ≡ startAt w₀ base i
+  pub starts : Starts w base c kept
+  pub told : (s l j : ℕ) → s < c → l < 64 → FromList w base c kept s l j ↔ FromList w₀ base count plain s l j
+
+pub pruning-start : (w : List ℕ) (base acc count plain : ℕ) → Pruning w base acc count plain 0 w 0
+pruning-start w base acc count plain = record {
+  high = omega arith;
+  frame = but-same acc (acc + 256) (arcsAt base) (blockEnd base) w;
+  below = omega arith;
+  behind = λ h. omega arith;
+  rest = λ i h g. refl;
+  later = λ i h g. refl;
+  starts = record { few = omega arith; less = omega arith; each = λ c h. absurd (omega arith); rises = λ c h. absurd (omega arith) };
+  told = λ s l j h g. absurd (omega arith);
+}
+
+both-ways : {v w : List ℕ} {base from to p j : ℕ} → ((i : ℕ) → from ≤ i → i < to → field v (arcsAt base) i ≡ field w (arcsAt base) i) → SameRows base w v
+    → Among v base from to p j ↔ Among w base from to p j
+both-ways f rows = (λ a. among-same f rows a, λ a. among-same (λ i l h. sym (f i l h)) (λ t j l. sym (rows t j l)) a)
+
+-- the starts from c on are as they were
+module _ {w₀ w : List ℕ} {base acc count plain c kept at : ℕ} (h : c < count) (v : Pruning w₀ base acc count plain c w kept) where
+  pub from-was : at ≡ startAt w base c → at ≡ startAt w₀ base c
+  from-was e = e ∙ v .later c (omega arith) h
+
+  pub to-was : at ≡ endAt w base count plain c → at ≡ endAt w₀ base count plain c
+  unfolding endAt
+  to-was e = e ∙ go (ltb (c + 1) count) refl
+    where
+      go : (b : Bool) → ltb (c + 1) count ≡ b → cond (ltb (c + 1) count) (startAt w base (c + 1)) plain ≡ cond (ltb (c + 1) count) (startAt w₀ base (c + 1)) plain
+      go true e = ap (λ (x : ℕ). cond (ltb (c + 1) count) x plain) (v .later (c + 1) (omega arith) (ltb-true (c + 1) count e))
+      go false e = rw e
+
+-- a turn: the arcs of c are pruned, then its start is written
+module _ {w₀ w w₁ w₂ : List ℕ} {base acc count plain c kept from to end : ℕ} (apart : acc + 256 ≤ base) (s : Starts w₀ base count plain) (h : c < count) (v : Pruning w₀ base acc count plain c w kept)
+    (ef : from ≡ startAt w base c) (et : to ≡ endAt w base count plain c)
+    (thin : KeptBut acc (acc + 256) (arcsAt base) (startsAt base) w w₁) (low : kept ≤ end) (top : end ≤ to)
+    (rest : (i : ℕ) → (i < kept) ⊎ (end ≤ i) → field w₁ (arcsAt base) i ≡ field w (arcsAt base) i)
+    (told : (p j : ℕ) → p < 64 → Among w₁ base kept end p j ↔ Among w base from to p j)
+    (pp : Kept (startsAt base + c / 4) (startsAt base + c / 4 + 1) w₁ w₂) (put : (i : ℕ) → field w₂ (startsAt base) i ≡ cond (eqb i c) kept (field w₁ (startsAt base) i)) where
+  from₀ : from ≡ startAt w₀ base c
+  from₀ = from-was h v ef
+
+  to₀ : to ≡ endAt w₀ base count plain c
+  to₀ = to-was h v et
+
+  to-few : to ≤ plain
+  to-few = omega (arith, to₀, end-below c s)
+
+  kept-few : kept ≤ 2048
+  kept-few = omega (arith, v .below, s .less)
+
+  start-other : (i : ℕ) → ¬ (i ≡ c) → startAt w₂ base i ≡ startAt w base i
+  unfolding startAt
+  start-other i n = put i ∙ ap (λ (b : Bool). cond b kept (field w₁ (startsAt base) i)) (ne-eqb i c n) ∙ field-same w w₁ (startsAt base) i (thin .above (startsAt base + i / 4) (omega arith))
+
+  start-here : startAt w₂ base c ≡ kept
+  unfolding startAt
+  start-here = put c ∙ ap (λ (b : Bool). cond b kept (field w₁ (startsAt base) c)) (eq-eqb c c refl)
+
+  arcs-kept : (i : ℕ) → i < 2048 → field w₂ (arcsAt base) i ≡ field w₁ (arcsAt base) i
+  arcs-kept i g = field-same w₁ w₂ (arcsAt base) i (pp .below (arcsAt base + i / 4) (omega arith))
+
+  second : KeptBut acc (acc + 256) (arcsAt base) (blockEnd base) w₁ w₂
+  second = but-high (omega arith) (omega arith) (omega (arith, s .few)) pp
+
+  first : KeptBut acc (acc + 256) (arcsAt base) (blockEnd base) w w₁
+  first = but-wider (omega arith) (omega arith) (omega arith) (omega arith) thin
+
+  end-before : (i : ℕ) → i < c → endAt w₂ base (c + 1) end i ≡ endAt w base c kept i
+  unfolding endAt
+  end-before i g = rw (lt-ltb (i + 1) (c + 1) (omega arith)) (go (ℕ-discrete (i + 1) c))
+    where
+      go : Dec (i + 1 ≡ c) → startAt w₂ base (i + 1) ≡ cond (ltb (i + 1) c) (startAt w base (i + 1)) kept
+      go (yes e) = rw (le-ltb (i + 1) c (omega arith)) (ap (startAt w₂ base) e ∙ start-here)
+      go (no n) = rw (lt-ltb (i + 1) c (omega arith)) (start-other (i + 1) n)
+
+  end-here : endAt w₂ base (c + 1) end c ≡ end
+  unfolding endAt
+  end-here = rw (le-ltb (c + 1) (c + 1) (omega arith))
+
+  starts₂ : Starts w₂ base (c + 1) end
+  starts₂ = record {
+    few = omega (arith, s .few);
+    less = omega (arith, to-few, s .less);
+    each = λ i g. each i g (ℕ-discrete i c);
+    rises = λ i g. rises i g (ℕ-discrete i c);
+  }
+    where
+      each : (i : ℕ) → i < c + 1 → Dec (i ≡ c) → startAt w₂ base i ≤ end
+      each i g (yes e) = rw e (omega (arith, start-here))
+      each i g (no n) = omega (arith, start-other i n, v .starts .each i (omega arith))
+
+      rises : (i : ℕ) → i < c + 1 → Dec (i ≡ c) → startAt w₂ base i ≤ endAt w₂ base (c + 1) end i
+      rises i g (yes e) = rw e (omega (arith, start-here, end-here))
+      rises i g (no n) = omega (arith, start-other i n, end-before i (omega arith), v .starts .rises i (omega arith))
+
+  told₂ : (i l j : ℕ) → i < c + 1 → l < 64 → FromList w₂ base (c + 1) end i l j ↔ FromList w₀ base count plain i l j
+  told₂ i l j g m = go (ℕ-discrete i c)
+    where
+      here : Among w₂ base kept end l j ↔ Among w₀ base from to l j
+      here =
+          iff-trans (both-ways (λ k a b. arcs-kept k (omega (arith, to-few, s .less))) (rows-kept base acc second apart))
+          (iff-trans (told l j m)
+          (both-ways (λ k a b. v .rest k (omega (arith, from₀, v .behind h)) (omega (arith, to-few, s .less))) (rows-kept base acc (v .frame) apart)))
+
+      go : Dec (i ≡ c) → FromList w₂ base (c + 1) end i l j ↔ FromList w₀ base count plain i l j
+      go (yes e) = rw (e, start-here, end-here, ← from₀, ← to₀) here
+      go (no n) =
+          let g' : i < c = omega arith in
+          rw (start-other i n, end-before i g')
+          (iff-trans
+          (both-ways (λ k a b. let q = end-below i (v .starts) in arcs-kept k (omega (arith, kept-few)) ∙ rest k (inl (omega arith))) (rows-kept base acc (but-then first second) apart))
+          (v .told i l j g' m))
+
+  next : c + 1 < count → end ≤ startAt w₀ base (c + 1)
+  unfolding endAt
+  next g = let q : endAt w₀ base count plain c ≡ startAt w₀ base (c + 1) = rw (lt-ltb (c + 1) count g) in omega (arith, to₀)
+
+  pub pruning-more : Pruning w₀ base acc count plain (c + 1) w₂ end
+  pruning-more = record {
+    high = omega arith;
+    frame = but-then (v .frame) (but-then first second);
+    below = omega (arith, to-few);
+    behind = next;
+    rest = λ i g k. arcs-kept i k ∙ rest i (inr g) ∙ v .rest i (omega arith) k;
+    later = λ i g k. start-other i (λ e. absurd (omega arith)) ∙ v .later i (omega arith) k;
+    starts = starts₂;
+    told = told₂;
+  }
+
+-- THE LAW. What is left tells the plain arcs still.
+module _ {w₀ w : List ℕ} {base acc count plain c kept : ℕ} (h : count ≤ c) (v : Pruning w₀ base acc count plain c w kept) where
+  all : c ≡ count
+  all = omega (arith, v .high)
+
+  pub pruned-starts : Starts w base count kept
+  pruned-starts = rw (← all) (v .starts)
+
+  pub pruned-held : (letters : ℕ) (arcs : List PlainArc) → letters ≤ 64 → Held count letters arcs (FromList w₀ base count plain) → Held count letters arcs (FromList w base count kept)
+  pruned-held letters arcs few held = record {
+    within = held .within;
+    covers = λ s l j g m. iff-trans (rw all at (v .told s l j (omega (arith, all)) (omega arith))) (held .covers s l j g m);
+  }
+
+-- A built automaton is built still.
+pub built-pruned : {x : Automaton} {L : ℕ} {w w' : List ℕ} {base acc k p r : ℕ} → Built x L w base k p → p ≤ 2048 → k ≤ 256 → letters x ≤ 64 → acc + 256 ≤ base
+    → KeptBut acc (acc + 256) (arcsAt base) (blockEnd base) w w' → Starts w' base k r
+    → ((letters : ℕ) (arcs : List PlainArc) → letters ≤ 64 → Held k letters arcs (FromList w base k p) → Held k letters arcs (FromList w' base k r)) → Built x L w' base k r
+built-pruned {x} {base = base} {acc = acc} b listed few short apart frame starts held = record {
+  many = b .many;
+  ended = b .ended;
+  rows = λ i j h. rw (rows-kept base acc frame apart i j (omega arith)) (b .rows i j h);
+  held = λ h. held (letters x) _ short (b .held listed);
+  starts = λ h. starts;
+}
