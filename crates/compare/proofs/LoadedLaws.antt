@@ -4,24 +4,30 @@ use mathlib.Core.Path.{_∙_, _≡_, ap, subst, sym}
 use mathlib.Core.Bool.{_&&_}
 use mathlib.Core.List.{List}
 use Prim.Native.Nat.{ℕ, _+_, _≤_}
+use native.Mathlib.Omega.{arith}
 use lib.Dec.{ltb}
-use Rattle.automata.specs.Automaton.{Automaton}
+use Rattle.automata.specs.Automaton.{Automaton, letters}
+use Rattle.automata.specs.Live.{PlainArc}
 use Rattle.explore.specs.Arcs.{Indexed, Linked}
 use Rattle.explore.specs.Explores.{exploredOf}
-use Rattle.explore.specs.Map.{Placed}
+use Rattle.explore.specs.Map.{KeptBut, Placed, arcsAt, blockEnd}
 use Rattle.explore.specs.declared.Explored.{Explored}
 use Rattle.explore.specs.declared.Explored.the-variants.{Tables}
 use Rattle.format.specs.Decoding.{automatonOf, decoded}
 use Rattle.format.specs.Reading.{readingOf}
 use Rattle.format.specs.declared.Counts.{Counts}
 use Rattle.format.specs.declared.Reading.the-variants.{Valid}
-use Rattle.file_laws.proofs.ValidLaws.{valid-decoded}
+use Rattle.format.proofs.Steps.{letters-length}
+use Rattle.file_laws.proofs.ValidLaws.{valid-decoded, valid-letters}
+use Rattle.joining.proofs.FileLaws.{valid-alphabet}
 use Rattle.sets.specs.Sets.{inSet}
 use Rattle.table.specs.Finals.{isFinalIn}
+use Rattle.table.specs.Stepping.{FromList, Held, Starts}
 use Rattle.table.specs.Words.{Builds, BuiltAs, Ready, letterSets}
 use Rattle.table.proofs.Accepting.{built-ready}
 use Rattle.table.proofs.BlockFrame.{SameBlock, built-kept}
 use Rattle.table.proofs.Judging.{ready-finals}
+use Rattle.table.proofs.Pruned.{built-pruned}
 use Rattle.compare.specs.Answers.{Loaded}
 
 -- what building leaves where it answers tables
@@ -42,3 +48,14 @@ loaded {file} {w} {c} {base} {k} {p} f e r few is =
 
 pub loaded-kept : {x : Automaton} {L : ℕ} {w w' : List ℕ} {base k p : ℕ} {f : List ℕ} → SameBlock base w w' → k ≤ 256 → Loaded x L w base k p f → Loaded x L w' base k p f
 loaded-kept b few l = record { built = built-kept b few (l .built); listed = l .listed; finals = l .finals }
+
+-- a valid file has few letters
+letters-few : (file : List ℕ) (c : Counts) → readingOf file ≡ Valid c → letters (automatonOf file) ≤ 64
+letters-few file c e = let v = valid-letters file c e in rw (valid-alphabet file c e) (omega (arith, letters-length c file (v .1), v .0))
+
+-- listed arcs that add nothing are dropped
+pub loaded-pruned : (file : List ℕ) {w w' : List ℕ} {c : Counts} {base k p r : ℕ} {f : List ℕ} → readingOf file ≡ Valid c → Loaded (automatonOf file) 256 w base k p f → letterSets + 256 ≤ base
+    → KeptBut letterSets (letterSets + 256) (arcsAt base) (blockEnd base) w w' → Starts w' base k r
+    → ((letters : ℕ) (arcs : List PlainArc) → letters ≤ 64 → Held k letters arcs (FromList w base k p) → Held k letters arcs (FromList w' base k r)) → Loaded (automatonOf file) 256 w' base k r f
+loaded-pruned file {c = c} e l apart frame starts held =
+    record { built = built-pruned (l .built) (l .listed) (l .built .ended) (letters-few file c e) apart frame starts held; listed = starts .less; finals = l .finals }

@@ -1,4 +1,5 @@
-// Loading: both automata are built, each in its block, or refused where one is beyond a limit; then they are compared.
+// Loading: both automata are built, each in its block, or refused where one is beyond a limit; then they are compared. Once its plain
+// arcs are counted, those that add nothing to a step are dropped.
 ghost use mathlib.Core.Path.{_≡_};
 ghost use Prim.Native.Nat.{_≤_};
 ghost use lib.ListN.{length};
@@ -12,11 +13,15 @@ use explore::Explored;
 use format::Counts;
 use table::block::build;
 use table::finals::final_set;
+use table::pruning::prune;
 
 // Where the blocks stand (crate pairs, specs/Map.antt).
 const FIRST_BLOCK: usize = 4992;
 
 const SECOND_BLOCK: usize = 6592;
+
+// Where the sets of the letters stand while a block is pruned.
+const LETTER_SETS: usize = 4480;
 
 // The first automaton is built already, and f is the set of its final configurations; the second is built now, and both are compared.
 // Cost: what building and comparing take.
@@ -53,8 +58,9 @@ fn compare_second(
         };
     }
     let g = final_set(second, b, w, more);
+    let left = prune(w, SECOND_BLOCK, LETTER_SETS, more, listed);
     let end = 12 + a.letters;
-    decide(w, count, plain, f, more, listed, g, &first[12..end], word)
+    decide(w, count, plain, f, more, left, g, &first[12..end], word)
 }
 
 // Two valid files with the same letters. The final configurations of the first are taken before the second is built, which takes the
@@ -89,5 +95,6 @@ pub fn compare_files(
         };
     }
     let f = final_set(first, a, w, count);
-    compare_second(first, a, count, plain, f, second, b, w, word)
+    let left = prune(w, FIRST_BLOCK, LETTER_SETS, count, plain);
+    compare_second(first, a, count, left, f, second, b, w, word)
 }

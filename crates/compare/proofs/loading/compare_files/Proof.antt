@@ -11,7 +11,7 @@ use Rattle.table.proofs.Accepting.{valid-few, valid-walkable}
 use Rattle.table.proofs.Judging.{ready-flags}
 use Rattle.compare.specs.Answers.{secondTests}
 use Rattle.compare.proofs.Checking.{arcs-many, configurations-many, within}
-use Rattle.compare.proofs.LoadedLaws.{built-answer, built-file, loaded}
+use Rattle.compare.proofs.LoadedLaws.{built-answer, built-file, loaded, loaded-pruned}
 use Rattle.compare.proofs.loading.compare_files.Statement.{statement}
 use Rattle.compare.proofs.loading.compare_files.Tie as tie
 
@@ -58,23 +58,36 @@ final-set-requires c κs =
     let r = ready (c .before .before) in
     (r .built .ended, (r .few-letters, (omega (arith, r .built .ended, r .above, r .steps .room .block), ready-flags r)))
 
+-- pruning's call
+abbrev told : tie.After-prune → tie.After-known-told
+told q = q .before .before .before .before .before
+
+prune-requires : tie.Need-prune-requires
+prune-requires c κs =
+    let f = c .before in
+    let z = f .before .before .before in
+    let s = start (from z) in
+    (omega arith, (omega (arith, s .pre .1 .0, from z .build .ensures .0 .long), ready z .built .starts (omega (arith, f .before .before .if1 .left))))
+
 compare-second-requires : tie.Need-compare-second-requires
 compare-second-requires c κs =
-    let f = c .before .before in
-    let z = f .before .before .before in
+    let q = c .before .before .before .before in
+    let f = q .before .before in
+    let z = told q in
     let s = start (from z) in (
-      (s .pre .0, (omega (arith, s .pre .1 .0, from z .build .ensures .0 .long), s .pre .1 .1)),
-      loaded (f .final-set .result) (s .pre .0 .first) (ready z) (omega (arith, f .before .before .if1 .left)) (f .final-set .ensures),
+      (s .pre .0, (omega (arith, s .pre .1 .0, from z .build .ensures .0 .long, q .prune .ensures .0 .long), s .pre .1 .1)),
+      loaded-pruned (s .args .first .now) (s .pre .0 .first) (loaded (f .final-set .result) (s .pre .0 .first) (ready z) (omega (arith, f .before .before .if1 .left)) (f .final-set .ensures))
+          (omega arith) (q .prune .ensures .0) (q .prune .ensures .1 .0 .0) (q .prune .ensures .1 .1),
     )
 
 returns-3 : tie.Need-returns-3
 returns-3 c =
     let d = c .before .before .before .before in
-    let f = d .before .before .before in
-    let z = f .before .before .before in
+    let q = d .before .before .before .before .before in
+    let z = told q in
     let s = start (from z) in (
-      d .compare-second .ensures .0 ∙ from z .build .ensures .0 .long,
-      within {left = secondTests 256 2048 512 (automatonOf (s .args .first .now)) (automatonOf (s .args .second .now))} (automatonOf (s .args .first .now)) 1 256 2048 (found z) (omega (arith, f .before .before .if1 .left)) (d .compare-second .ensures .1),
+      d .compare-second .ensures .0 ∙ q .prune .ensures .0 .long ∙ from z .build .ensures .0 .long,
+      within {left = secondTests 256 2048 512 (automatonOf (s .args .first .now)) (automatonOf (s .args .second .now))} (automatonOf (s .args .first .now)) 1 256 2048 (found z) (omega (arith, q .before .before .before .before .if1 .left)) (d .compare-second .ensures .1),
     )
 
 pub compare-files-spec : {M : Type 1} → statement M
@@ -89,6 +102,7 @@ compare-files-spec =
     (λ c. search needs)
     returns-2
     final-set-requires
+    prune-requires
     compare-second-requires
     (λ c. search needs)
     (λ c. search needs)

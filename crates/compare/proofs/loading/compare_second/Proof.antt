@@ -17,7 +17,7 @@ use Rattle.table.proofs.BlockFrame.{block-but}
 use Rattle.table.proofs.Judging.{ready-flags}
 use Rattle.compare.specs.Answers.{Comparable, Loaded}
 use Rattle.compare.proofs.Checking.{arcs-many, configurations-many, within}
-use Rattle.compare.proofs.LoadedLaws.{built-answer, built-file, loaded, loaded-kept}
+use Rattle.compare.proofs.LoadedLaws.{built-answer, built-file, loaded, loaded-kept, loaded-pruned}
 use Rattle.compare.proofs.loading.compare_second.Statement.{statement}
 use Rattle.compare.proofs.loading.compare_second.Tie as tie
 use Rattle.writing.proofs.FileParts.{lent-letters, valid-alphabet}
@@ -65,21 +65,39 @@ final-set-requires c κs =
     let r = ready (c .before .before) in
     (r .built .ended, (r .few-letters, (omega (arith, r .built .ended, r .above, r .steps .room .block), ready-flags r)))
 
--- both are loaded now
-first-loaded : (z : tie.After-known-told) → let s = start (from z) in Loaded (automatonOf (s .args .first .now)) 256 (from z .build .last .1 .1 .0) firstBlock (s .args .count) (s .args .plain) (s .args .f)
-first-loaded z = let s = start (from z) in loaded-kept (block-but (from z .build .ensures .0) (omega arith) (inl (omega arith))) (s .pre .1 .built .ended) (s .pre .1)
+-- pruning's call
+abbrev told : tie.After-prune → tie.After-known-told
+told q = q .before .before .before .before .before
 
-second-loaded : (f : tie.After-final-set) → let z = f .before .before .before in let s = start (from z) in
-    Loaded (automatonOf (s .args .second .now)) 256 (from z .build .last .1 .1 .0) secondBlock (z .before .more .given .0 .0) (z .before .more .given .0 .1 .0) (f .final-set .result)
-second-loaded f =
+prune-requires : tie.Need-prune-requires
+prune-requires c κs =
+    let f = c .before in
     let z = f .before .before .before in
-    loaded (f .final-set .result) (start (from z) .pre .0 .0 .second) (ready z) (omega (arith, f .before .before .if1 .left)) (f .final-set .ensures)
+    let s = start (from z) in
+    (omega arith, (omega (arith, s .pre .0 .1 .0, from z .build .ensures .0 .long), ready z .built .starts (omega (arith, f .before .before .if1 .left))))
+
+-- both are loaded now
+first-loaded : (q : tie.After-prune) → let s = start (from (told q)) in Loaded (automatonOf (s .args .first .now)) 256 (q .prune .last .0) firstBlock (s .args .count) (s .args .plain) (s .args .f)
+first-loaded q =
+    let b = from (told q) in
+    let s = start b in
+    loaded-kept (block-but (q .prune .ensures .0) (omega arith) (inl (omega arith))) (s .pre .1 .built .ended)
+    (loaded-kept (block-but (b .build .ensures .0) (omega arith) (inl (omega arith))) (s .pre .1 .built .ended) (s .pre .1))
+
+second-loaded : (q : tie.After-prune) → let f = q .before .before in let z = told q in let s = start (from z) in
+    Loaded (automatonOf (s .args .second .now)) 256 (q .prune .last .0) secondBlock (z .before .more .given .0 .0) (q .prune .result) (f .final-set .result)
+second-loaded q =
+    let f = q .before .before in
+    let z = told q in
+    let s = start (from z) in
+    loaded-pruned (s .args .second .now) (s .pre .0 .0 .second) (loaded (f .final-set .result) (s .pre .0 .0 .second) (ready z) (omega (arith, f .before .before .if1 .left)) (f .final-set .ensures))
+    (omega arith) (q .prune .ensures .0) (q .prune .ensures .1 .0 .0) (q .prune .ensures .1 .1)
 
 add-end : tie.Need-add-end
-add-end c = let s = start (from (c .before .before .before .before)) in omega (arith, valid-few (s .args .first .now) (s .args .a) (s .pre .0 .0 .first))
+add-end c = let s = start (from (told (c .before .before .before))) in omega (arith, valid-few (s .args .first .now) (s .args .a) (s .pre .0 .0 .first))
 
 part-decide-end : tie.Need-part-decide-end
-part-decide-end c = let s = start (from (c .before .before .before .before .before)) in omega (arith, valid-letters (s .args .first .now) (s .args .a) (s .pre .0 .0 .first))
+part-decide-end c = let s = start (from (told (c .before .before .before .before))) in omega (arith, valid-letters (s .args .first .now) (s .args .a) (s .pre .0 .0 .first))
 
 -- the letters that are lent on
 few-lent : (z : tie.After-known-told) → let s = start (from z) in length (take (12 + s .args .a .letters - 12) (drop 12 (s .args .first .now))) ≤ 64
@@ -91,26 +109,30 @@ few-lent z =
 
 decide-requires : tie.Need-decide-requires
 decide-requires c κs =
-    let f = c .before .before .before .before in
-    let z = f .before .before .before in
+    let q = c .before .before .before .before .before .before in
+    let z = told q in
     let s = start (from z) in
-    let one = first-loaded z in
-    let two = second-loaded f in (
-      record { long = omega (arith, s .pre .0 .1 .0, from z .build .ensures .0 .long); few = few-lent z; first = one .built .starts (one .listed); second = two .built .starts (two .listed) },
+    let one = first-loaded q in
+    let two = second-loaded q in (
+      record {
+        long = omega (arith, s .pre .0 .1 .0, from z .build .ensures .0 .long, q .prune .ensures .0 .long);
+        few = few-lent z;
+        first = one .built .starts (one .listed);
+        second = two .built .starts (two .listed);
+      },
       s .pre .0 .1 .1,
     )
 
-comparable : (f : tie.After-final-set) → let z = f .before .before .before in let s = start (from z) in let a = s .args in
-    Comparable (automatonOf (a .first .now)) (automatonOf (a .second .now)) 256 (from z .build .last .1 .1 .0) (a .count) (a .plain) (a .f) (z .before .more .given .0 .0) (z .before .more .given .0 .1 .0) (f .final-set .result)
+comparable : (q : tie.After-prune) → let f = q .before .before in let z = told q in let s = start (from z) in let a = s .args in
+    Comparable (automatonOf (a .first .now)) (automatonOf (a .second .now)) 256 (q .prune .last .0) (a .count) (a .plain) (a .f) (z .before .more .given .0 .0) (q .prune .result) (f .final-set .result)
     (take (12 + a .a .letters - 12) (drop 12 (a .first .now)))
-comparable f =
-    let z = f .before .before .before in
-    let s = start (from z) in
+comparable q =
+    let s = start (from (told q)) in
     let a = s .args in
     let j = s .pre .0 .0 in
     record {
-      first = first-loaded z;
-      second = second-loaded f;
+      first = first-loaded q;
+      second = second-loaded q;
       formed₁ = valid-wellFormed (a .first .now) (a .a) (j .first);
       formed₂ = valid-wellFormed (a .second .now) (a .b) (j .second);
       shared = j .shared;
@@ -120,11 +142,11 @@ comparable f =
 returns-3 : tie.Need-returns-3
 returns-3 c =
     let d = c .before .before .before .before in
-    let f = d .before .before .before .before .before in
-    let z = f .before .before .before in
+    let q = d .before .before .before .before .before .before .before in
+    let z = told q in
     let s = start (from z) in (
-      d .decide .ensures .0 ∙ from z .build .ensures .0 .long,
-      within (automatonOf (s .args .second .now)) 2 256 2048 (found z) (omega (arith, f .before .before .if1 .left)) (d .decide .ensures .1 (automatonOf (s .args .first .now)) (automatonOf (s .args .second .now)) (comparable f)),
+      d .decide .ensures .0 ∙ q .prune .ensures .0 .long ∙ from z .build .ensures .0 .long,
+      within (automatonOf (s .args .second .now)) 2 256 2048 (found z) (omega (arith, q .before .before .before .before .if1 .left)) (d .decide .ensures .1 (automatonOf (s .args .first .now)) (automatonOf (s .args .second .now)) (comparable q)),
     )
 
 pub compare-second-spec : {M : Type 1} → statement M
@@ -139,6 +161,7 @@ compare-second-spec =
     (λ c. search needs)
     returns-2
     final-set-requires
+    prune-requires
     add-end
     (λ c. search needs)
     (λ c. search needs)
