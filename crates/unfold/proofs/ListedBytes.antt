@@ -2,13 +2,9 @@
 use mathlib.Core.Path.{_≡_}
 use mathlib.Core.List.{List, [], _++_}
 use Prim.Native.Nat.{_+_, _-_, _<_, _≤_, ℕ}
-use native.Mathlib.Decide.{decLt}
-use native.Mathlib.Omega.{arith}
-use borrow.Author.Tests.{le-ltb, lt-ltb}
 use Rattle.explore.specs.Map.{arcsAt}
 use Rattle.format.specs.Encoding.{arcBytes, arcsBytes}
 use Rattle.memory.specs.Fields.{field}
-use Rattle.table.specs.Stepping.{Starts, endAt}
 use Rattle.writing.proofs.FileParts.{arcs-append}
 use Rattle.unfold.specs.Listed.{arcListed, arcsListed, arcsOfMany, arcsOfOne}
 use Rattle.unfold.proofs.Counted.{counted-next, counted-none, joined-next, joined-none}
@@ -31,12 +27,3 @@ module _ (w : List ℕ) (base : ℕ) where
   pub many-none : (k p s : ℕ) → k ≤ s → arcsBytes (arcsOfMany w base k p s (k - s)) ≡ []
   unfolding arcsBytes arcsOfMany
   many-none k p s h = rw (joined-none (arcsOfOne w base k p) s k h)
-
--- the arcs of a configuration end within the list
-pub end-inside : {w : List ℕ} {base k p : ℕ} → Starts w base k p → (s : ℕ) → endAt w base k p s ≤ 2048
-unfolding endAt
-end-inside {w} {base} {k} {p} f s = go (decLt (s + 1) k)
-  where
-    go : Dec (s + 1 < k) → endAt w base k p s ≤ 2048
-    go (yes h) = rw (lt-ltb (s + 1) k h) (f .each (s + 1) h)
-    go (no h) = rw (le-ltb (s + 1) k (omega arith)) (f .less)

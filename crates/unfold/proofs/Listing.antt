@@ -23,7 +23,7 @@ use Rattle.format.specs.Decoding.{letterOf}
 use Rattle.format.specs.Encoding.{letterByte}
 use Rattle.memory.specs.Fields.{field}
 use Rattle.table.specs.Stepping.{Starts, endAt, startAt}
-use Rattle.table.proofs.PlainPlaces.{before-le}
+use Rattle.table.proofs.PlainPlaces.{before-le, before-rises}
 use Rattle.unfold.specs.Listed.{arcListed, arcsListed, arcsOfMany}
 use Rattle.unfold.proofs.Counted.{counted-split}
 use Rattle.unfold.proofs.PlainFits.{PlainFits, plain-fit}
@@ -99,10 +99,15 @@ module _ (x : Automaton) (formed : WellFormed x) (few-letters : letters x ≤ 64
       go (yes g) = rw (lt-ltb (s + 1) k g) (start-is (s + 1) g ∙ ap (startOf x 256) (add-one s))
       go (no g) = rw (le-ltb (s + 1) k (omega arith)) (plain ∙ ap (λ (cs : List Configuration). length (plainAll x (configurations x 256) 0 cs)) (sym (take-all (suc s) (configurations x 256) (omega arith))))
 
-  -- the starts are places of the list
+  -- the starts are places of the list, and they rise
   pub starts-listed : Starts w base k p
   unfolding startOf plainArcs
-  starts-listed = record { few = rw many few; less = fits; each = λ s h. rw (start-is s h) (omega (arith, plain, before-le x (configurations x 256) 0 (configurations x 256) s)) }
+  starts-listed = record {
+    few = rw many few;
+    less = fits;
+    each = λ s h. rw (start-is s h) (omega (arith, plain, before-le x (configurations x 256) 0 (configurations x 256) s));
+    rises = λ s h. rw (start-is s h, end-is s h) (before-rises x (configurations x 256) 0 (configurations x 256) s);
+  }
 
   small : Each (PlainFits 256 255) (plainArcs x 256)
   small = mem-each (plainArcs x 256) (λ a m. let f = plain-fit x formed 256 few a m in record { source = omega (arith, f .source); lettered = λ l e. omega (arith, f .lettered l e); target = omega (arith, f .target) })

@@ -5,9 +5,10 @@ use Prim.Native.Nat.{_+_, _-_}
 use native.Mathlib.Omega.{arith}
 use Rattle.format.specs.Encoding.{arcsBytes}
 use Rattle.table.specs.Stepping.{startAt}
+use Rattle.table.proofs.BlockFrame.{end-few}
 use Rattle.writing.proofs.Placed.{Left, left-all, left-fits, left-less, left-none}
 use Rattle.unfold.specs.Listed.{arcsOfMany, arcsOfOne}
-use Rattle.unfold.proofs.ListedBytes.{end-inside, many-next, many-none}
+use Rattle.unfold.proofs.ListedBytes.{many-next, many-none}
 use Rattle.unfold.proofs.arcs.write_arcs.Statement.{statement}
 use Rattle.unfold.proofs.arcs.write_arcs.Tie as tie
 
@@ -42,7 +43,7 @@ write-some-requires c κs =
     let few = s .pre .0 .few in
     let a = s .args in
     let room = left-fits (arcsBytes (arcsOfOne (a .w .now) (a .base) (a .known) (a .plain) (t .before .loop .s))) _ (turn t) in
-    (omega (arith, t .loop-test .taken), rw (e .end-of .ensures) (end-inside (s .pre .0) (t .before .loop .s)), s .pre .1, rw (g .get16 .ensures .0, e .end-of .ensures) room)
+    (omega (arith, t .loop-test .taken), rw (e .end-of .ensures) (end-few (t .before .loop .s) (s .pre .0)), s .pre .1, rw (g .get16 .ensures .0, e .end-of .ensures) room)
 
 loop-again : tie.Need-loop-again Inv-loop μ-loop
 unfolding startAt
