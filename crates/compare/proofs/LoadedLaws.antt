@@ -19,7 +19,7 @@ use Rattle.format.specs.declared.Counts.{Counts}
 use Rattle.format.specs.declared.Reading.the-variants.{Valid}
 use Rattle.format.proofs.Steps.{letters-length}
 use Rattle.file_laws.proofs.ValidLaws.{valid-decoded, valid-letters}
-use Rattle.joining.proofs.FileLaws.{valid-alphabet}
+use Rattle.writing.proofs.FileParts.{valid-alphabet}
 use Rattle.sets.specs.Sets.{inSet}
 use Rattle.table.specs.Finals.{isFinalIn}
 use Rattle.table.specs.Stepping.{FromList, Held, Starts}
