@@ -61,7 +61,8 @@ fn prune_one(w: &mut [u64], base: usize, acc: usize, from: usize, to: usize, kep
 }
 
 // Drops the listed arcs that add nothing, of each configuration. Answers how many are left. They are written down in place: where one
-// is written is never behind where one is read.
+// is written is never behind where one is read. Where there are fewer than two for each configuration, all stay: the test would take
+// longer than what it saves.
 // Cost: two rows for each arc.
 pub fn prune(w: &mut [u64], base: usize, acc: usize, count: usize, plain: usize) -> usize
     requires { ⌜ (acc + 256 ≤ base) × ((blockEnd base ≤ length (now w)) × Starts (now w) base count plain) ⌝ }
@@ -69,6 +70,9 @@ pub fn prune(w: &mut [u64], base: usize, acc: usize, count: usize, plain: usize)
     ensures starts { λ r. ⌜ Starts (now (w .exit)) base count r × (r ≤ plain) ⌝ }
     ensures held { λ r. ⌜ ((letters : ℕ) (arcs : List PlainArc) → letters ≤ 64 → Held count letters arcs (FromList (now (w .entry)) base count plain) → Held count letters arcs (FromList (now (w .exit)) base count r)) ⌝ }
 {
+    if plain < 2 * count {
+        return plain;
+    }
     let mut kept: usize = 0;
     let mut c: usize = 0;
     while c < count {
