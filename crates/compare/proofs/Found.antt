@@ -23,7 +23,7 @@ use Rattle.sets.specs.Sets.{view}
 use Rattle.shown.specs.Spelled.{alone, differsBy, takerBy, wordOf}
 use Rattle.shown.proofs.Climbing.{spelled-word}
 use Rattle.shown.proofs.Differences.{Judges, judge-entry}
-use Rattle.table.specs.Stepping.{FromList, Held}
+use Rattle.stepping.specs.Stepping.{FromList, Held}
 use Rattle.table.proofs.Building.{row-start}
 use Rattle.compare.specs.Answers.{Answers, Comparable, pairTest}
 use Rattle.compare.specs.declared.Comparison.the-variants.{Different, Refused, Same}

@@ -22,12 +22,12 @@ use Rattle.file_laws.proofs.ValidLaws.{valid-decoded, valid-letters}
 use Rattle.writing.proofs.FileParts.{valid-alphabet}
 use Rattle.sets.specs.Sets.{inSet}
 use Rattle.table.specs.Finals.{isFinalIn}
-use Rattle.table.specs.Stepping.{FromList, Held, Starts}
+use Rattle.stepping.specs.Stepping.{FromList, Held, Starts}
 use Rattle.table.specs.Words.{Builds, BuiltAs, Ready, letterSets}
 use Rattle.table.proofs.Accepting.{built-ready}
-use Rattle.table.proofs.BlockFrame.{SameBlock, built-kept}
+use Rattle.stepping.proofs.BlockFrame.{SameBlock}
 use Rattle.table.proofs.Judging.{ready-finals}
-use Rattle.table.proofs.Pruned.{built-pruned}
+use Rattle.table.proofs.BuiltFrame.{built-kept, built-pruned}
 use Rattle.compare.specs.Answers.{Loaded}
 
 -- what building leaves where it answers tables

@@ -11,9 +11,9 @@ use super::Comparison;
 use super::deciding::decide;
 use explore::Explored;
 use format::Counts;
+use stepping::pruning::prune;
 use table::block::build;
 use table::finals::final_set;
-use table::pruning::prune;
 
 // Where the blocks stand (crate pairs, specs/Map.antt).
 const FIRST_BLOCK: usize = 4992;

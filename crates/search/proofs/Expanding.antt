@@ -15,8 +15,8 @@ use Rattle.memory.proofs.Laws.{kept-then, kept-wider}
 use Rattle.sets.specs.Sets.{Within, view}
 use Rattle.sets.specs.Rows.{row}
 use Rattle.sets.proofs.Laws.{row-below}
-use Rattle.table.specs.Stepping.{FromList, Held, Starts, setOf}
-use Rattle.table.proofs.BlockFrame.{block-kept, starts-kept}
+use Rattle.stepping.specs.Stepping.{FromList, Held, Starts, setOf}
+use Rattle.stepping.proofs.BlockFrame.{block-kept, starts-kept}
 use Rattle.pairs.specs.Map.{firstBlock, firstSets, pairsEnd, secondBlock, secondSets}
 use Rattle.pairs.specs.Entries.{Holds, Side}
 use Rattle.search.specs.Searching.{Behind, Both, LetterSets, Ready}

@@ -16,8 +16,8 @@ use Rattle.memory.proofs.Laws.{chain-kept, field-same}
 use Rattle.sets.specs.Sets.{Within, bit, view}
 use Rattle.sets.specs.Rows.{row}
 use Rattle.sets.proofs.Laws.{row-above, row-below}
-use Rattle.table.specs.Stepping.{FromList, Held, Room, Starts, setOf}
-use Rattle.table.proofs.BlockFrame.{SameBlock, block-kept, held-same, list-kept, starts-kept}
+use Rattle.stepping.specs.Stepping.{FromList, Held, Room, Starts, setOf}
+use Rattle.stepping.proofs.BlockFrame.{SameBlock, block-kept, held-same, list-kept, starts-kept}
 use Rattle.pairs.specs.Map.{firstBlock, firstSets, parents, pairHeads, pairNexts, pairsEnd, secondBlock, secondSets}
 use Rattle.pairs.specs.Entries.{Child, Holds, Side}
 use Rattle.pairs.specs.Pairs.{pairSlot}

@@ -16,8 +16,8 @@ use Rattle.automata.proofs.ExplorationLaws.{addAll-at, addAll-length}
 use Rattle.memory.specs.Frame.{Kept}
 use Rattle.memory.proofs.Laws.{kept-same, kept-then}
 use Rattle.sets.specs.Sets.{bit}
-use Rattle.table.specs.Stepping.{setOf}
-use Rattle.table.proofs.LetterSets.{set-off}
+use Rattle.stepping.specs.Stepping.{setOf}
+use Rattle.stepping.proofs.LetterSets.{set-off}
 use Rattle.pairs.specs.Map.{firstSets, pairsEnd, secondSets}
 use Rattle.pairs.specs.Entries.{Holds, Side, alike, along, onEntry}
 use Rattle.pairs.specs.Pairs.{Met, Old}

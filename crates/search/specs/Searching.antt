@@ -10,7 +10,7 @@ use Rattle.automata.specs.Search.{Entry}
 use Rattle.automata.specs.Pairs.{Pair}
 use Rattle.sets.specs.Sets.{view, Within}
 use Rattle.sets.specs.Rows.{row}
-use Rattle.table.specs.Stepping.{FromList, Held, Starts, setOf}
+use Rattle.stepping.specs.Stepping.{FromList, Held, Starts, setOf}
 use Rattle.pairs.specs.Map.{firstBlock, firstSets, secondBlock, secondSets}
 use Rattle.pairs.specs.Entries.{Holds, Side, Tree}
 use Rattle.pairs.specs.Pairs.{PairAt, PairChain}

@@ -12,7 +12,7 @@ ghost use Rattle.automata.specs.Search.{Entry, nextEntries, origin, entries};
 ghost use Rattle.automata.specs.Pairs.{Pair, samePair};
 ghost use Rattle.memory.specs.Frame.{Kept};
 ghost use Rattle.sets.specs.Sets.{bit};
-ghost use Rattle.table.specs.Stepping.{setOf};
+ghost use Rattle.stepping.specs.Stepping.{setOf};
 ghost use Rattle.pairs.specs.Map.{pairsEnd, firstSets, secondSets, firstBlock};
 ghost use Rattle.pairs.specs.Entries.{Side, along, begin, alike, Holds};
 ghost use Rattle.pairs.specs.Pairs.{PairChain, Met};
@@ -21,8 +21,8 @@ use pairs::Grown;
 use pairs::add_pair;
 use pairs::meet;
 use sets::rows::load;
-use table::stepping::set_of;
-use table::stepping::step;
+use stepping::set_of;
+use stepping::step;
 
 // Where the chains of the pairs, the sets of the letters and the blocks stand (crate pairs, specs/Map.antt).
 const PAIR_HEADS: usize = 4224;

@@ -32,7 +32,7 @@ use Rattle.memory.proofs.Laws.{field-same}
 use Rattle.sets.specs.Sets.{Within, view}
 use Rattle.sets.specs.Rows.{Link, Closure, here, next, related, row}
 use Rattle.sets.proofs.Laws.{view-is}
-use Rattle.table.specs.Stepping.{Among, endAt, startAt}
+use Rattle.stepping.specs.Stepping.{Among, endAt, startAt}
 use Rattle.table.specs.Words.{Built, Stored}
 use Rattle.table.proofs.PlainPlaces.{before-le, before-rises, source-at}
 

@@ -24,9 +24,9 @@ use Rattle.format.specs.Reading.{firstArc}
 use Rattle.format.specs.declared.Counts.{Counts}
 use Rattle.memory.specs.Frame.{Kept}
 use Rattle.table.specs.FileSteps.{Findable, FromFile, Outgoing, Steppable}
-use Rattle.table.specs.Stepping.{Held}
+use Rattle.stepping.specs.Stepping.{Held}
 use Rattle.table.specs.Words.{Built, Stored}
-use Rattle.table.proofs.BlockFrame.{block-kept, held-same, list-kept}
+use Rattle.stepping.proofs.BlockFrame.{block-kept, held-same, list-kept}
 use Rattle.table.proofs.FileVisits.{from-kept, map-kept}
 use Rattle.table.proofs.FinalLaws.{word-in}
 

@@ -30,8 +30,8 @@ use Rattle.memory.proofs.Laws.{OnChain, chosen, chosen-off, chosen-on, field-sa
 use Rattle.sets.specs.Sets.{inSet}
 use Rattle.sets.specs.Rows.{related}
 use Rattle.table.specs.FileSteps.{Findable, FromFile, Led, Steppable}
-use Rattle.table.specs.Stepping.{Room, setOf}
-use Rattle.table.proofs.BlockFrame.{SameBlock, block-kept, related-kept, room-kept, starts-kept}
+use Rattle.stepping.specs.Stepping.{Room, setOf}
+use Rattle.stepping.proofs.BlockFrame.{SameBlock, block-kept, related-kept, room-kept, starts-kept}
 
 -- ---- one arc
 -- the arc at a place passes from `own` with letter p and leads to j

@@ -1,10 +1,5 @@
-pub mod LetterSets
-pub mod BlockFrame
-pub mod Visiting
-pub mod Thinning
-pub mod Pruned
+pub mod BuiltFrame
 pub mod FileVisits
-pub mod Onward
 pub mod PlainPlaces
 pub mod Building
 pub mod FinalLaws

@@ -14,7 +14,7 @@ use Rattle.explore.specs.Tables.{Configured}
 use Rattle.format.specs.Reading.{firstArc}
 use Rattle.format.specs.declared.Counts.{Counts}
 use Rattle.sets.specs.Rows.{related}
-use Rattle.table.specs.Stepping.{FromList, Held, Room, Starts}
+use Rattle.stepping.specs.Stepping.{FromList, Held, Room, Starts}
 
 -- one of these passing arcs has letter l, and the row of the configuration that it leads to, one of the `known`, has j
 pub record Led (w : List ℕ) (base known : ℕ) (hs : List Hop) (l j : ℕ) : Type 0 where

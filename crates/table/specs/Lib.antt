@@ -1,4 +1,3 @@
-pub mod Stepping
 pub mod FileSteps
 pub mod Finals
 pub mod Words

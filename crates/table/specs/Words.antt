@@ -19,7 +19,7 @@ use Rattle.format.specs.Decoding.{decoded}
 use Rattle.format.specs.declared.Counts.{Counts}
 use Rattle.sets.specs.Rows.{related}
 use Rattle.table.specs.FileSteps.{Findable, Steppable}
-use Rattle.table.specs.Stepping.{FromList, Held, Starts}
+use Rattle.stepping.specs.Stepping.{FromList, Held, Starts}
 
 -- where the sets of the letters stand
 abbrev pub letterSets : ℕ

@@ -13,9 +13,8 @@ ghost use Rattle.explore.specs.Map.{mapEnd};
 ghost use Rattle.explore.specs.Packed.{hop};
 ghost use Rattle.memory.specs.Frame.{Kept};
 ghost use Rattle.sets.specs.Sets.{inSet, view, Within};
-ghost use Rattle.table.specs.Stepping.{setOf, Held, Room};
+ghost use Rattle.stepping.specs.Stepping.{setOf, Held, Room};
 ghost use Rattle.table.specs.FileSteps.{Led, FromFile, Findable};
-use super::stepping::into;
 use explore::Outcome;
 use explore::map::ARC_HEADS;
 use explore::map::ARC_NEXTS;
@@ -28,6 +27,7 @@ use format::Counts;
 use format::fields::byte;
 use memory::chains::find_word;
 use memory::get16;
+use stepping::into;
 
 // The arc at a place of the file, from the configuration `own`: where it has a letter and passes, the row of the configuration that
 // it leads to joins the set of its letter.

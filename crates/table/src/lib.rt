@@ -9,8 +9,6 @@ use words::judge_word;
 pub mod block;
 pub mod file_steps;
 pub mod finals;
-pub mod pruning;
-pub mod stepping;
 pub mod words;
 
 // Where the block of the automaton stands.

@@ -12,10 +12,10 @@ ghost use Rattle.table.specs.Membership.{judged};
 use super::Membership;
 use super::file_steps::step_file;
 use super::finals::final_set;
-use super::stepping::set_of;
-use super::stepping::step;
 use format::Counts;
 use format::letters::Letter;
+use stepping::set_of;
+use stepping::step;
 
 // Where the sets of the letters stand.
 const LETTER_SETS: usize = 4480;

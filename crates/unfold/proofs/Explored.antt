@@ -26,7 +26,7 @@ use Rattle.file_laws.proofs.ValidLaws.{file-seen, valid-arcs, valid-decoded, va
 use Rattle.sets.specs.Sets.{inSet, view}
 use Rattle.sets.proofs.Laws.{length-view}
 use Rattle.table.specs.Finals.{flagPlace, isFinalIn, stateIn}
-use Rattle.table.specs.Stepping.{Starts}
+use Rattle.stepping.specs.Stepping.{Starts}
 use Rattle.table.proofs.FinalLaws.{configurations-states, final-view, flag-inside}
 use Rattle.writing.specs.Placing.{Appended}
 use Rattle.writing.proofs.FileParts.{header-length}

@@ -22,7 +22,7 @@ use Rattle.explore.specs.Tables.{fieldsOf, listed}
 use Rattle.format.specs.Decoding.{letterOf}
 use Rattle.format.specs.Encoding.{letterByte}
 use Rattle.memory.specs.Fields.{field}
-use Rattle.table.specs.Stepping.{Starts, endAt, startAt}
+use Rattle.stepping.specs.Stepping.{Starts, endAt, startAt}
 use Rattle.table.proofs.PlainPlaces.{before-le, before-rises}
 use Rattle.unfold.specs.Listed.{arcListed, arcsListed, arcsOfMany}
 use Rattle.unfold.proofs.Counted.{counted-split}

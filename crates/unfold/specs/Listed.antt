@@ -10,7 +10,7 @@ use Rattle.explore.specs.Map.{arcsAt}
 use Rattle.format.specs.declared.Counts.{Counts}
 use Rattle.format.specs.Decoding.{letterOf}
 use Rattle.memory.specs.Fields.{field}
-use Rattle.table.specs.Stepping.{endAt, startAt}
+use Rattle.stepping.specs.Stepping.{endAt, startAt}
 
 -- the plain arc from configuration s that is listed as `entry`, its letter's byte times 256 plus its target
 unfoldable pub arcListed : ℕ → ℕ → Arc

@@ -3,11 +3,11 @@ ghost use Prim.Native.Nat.{_+_, _≤_, _<_};
 ghost use lib.ListN.{length};
 ghost use Rattle.explore.specs.Map.{blockEnd};
 ghost use Rattle.format.specs.Encoding.{arcsBytes};
-ghost use Rattle.table.specs.Stepping.{Starts};
+ghost use Rattle.stepping.specs.Stepping.{Starts};
 ghost use Rattle.writing.specs.Placing.{Appended};
 ghost use Rattle.unfold.specs.Listed.{arcsListed, arcsOfMany};
 use memory::get16;
-use table::stepping::end_of;
+use stepping::end_of;
 use writing::arcs::Fields;
 use writing::arcs::write_plain_arc;
 

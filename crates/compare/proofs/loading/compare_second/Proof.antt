@@ -13,7 +13,7 @@ use Rattle.file_laws.proofs.ValidLaws.{valid-letters, valid-wellFormed}
 use Rattle.pairs.specs.Map.{firstBlock, secondBlock}
 use Rattle.table.specs.Words.{Ready}
 use Rattle.table.proofs.Accepting.{valid-few, valid-walkable}
-use Rattle.table.proofs.BlockFrame.{block-but}
+use Rattle.stepping.proofs.BlockFrame.{block-but}
 use Rattle.table.proofs.Judging.{ready-flags}
 use Rattle.compare.specs.Answers.{Comparable, Loaded}
 use Rattle.compare.proofs.Checking.{arcs-many, configurations-many, within}

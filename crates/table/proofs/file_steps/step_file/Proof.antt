@@ -4,9 +4,9 @@ use Prim.Native.Nat.{_-_}
 use native.Mathlib.Omega.{arith}
 use Rattle.explore.proofs.Linking.{indexed-kept, linked-kept}
 use Rattle.table.specs.FileSteps.{FromFile}
-use Rattle.table.proofs.BlockFrame.{room-kept}
+use Rattle.stepping.proofs.BlockFrame.{room-kept}
 use Rattle.table.proofs.FileVisits.{findable-kept, from-kept, map-kept}
-use Rattle.table.proofs.Onward.{Stepping, stepped, stepping-more, stepping-start}
+use Rattle.stepping.proofs.Onward.{Stepping, stepped, stepping-more, stepping-start}
 use Rattle.table.proofs.file_steps.step_file.Statement.{statement}
 use Rattle.table.proofs.file_steps.step_file.Tie as tie
 

@@ -4,8 +4,8 @@ use mathlib.Core.List.{_++_}
 use Prim.Native.Nat.{_+_, _-_}
 use native.Mathlib.Omega.{arith}
 use Rattle.format.specs.Encoding.{arcsBytes}
-use Rattle.table.specs.Stepping.{startAt}
-use Rattle.table.proofs.BlockFrame.{end-few}
+use Rattle.stepping.specs.Stepping.{startAt}
+use Rattle.stepping.proofs.BlockFrame.{end-few}
 use Rattle.writing.proofs.Placed.{Left, left-all, left-fits, left-less, left-none}
 use Rattle.unfold.specs.Listed.{arcsOfMany, arcsOfOne}
 use Rattle.unfold.proofs.ListedBytes.{many-next, many-none}

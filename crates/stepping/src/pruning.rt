@@ -11,10 +11,10 @@ ghost use Rattle.explore.specs.Map.{arcsAt, blockEnd, startsAt, KeptBut};
 ghost use Rattle.memory.specs.Fields.{field};
 ghost use Rattle.sets.specs.Sets.{inSet};
 ghost use Rattle.sets.specs.Rows.{related};
-ghost use Rattle.table.specs.Stepping.{setOf, Among, FromList, Held, Room, Starts};
-use super::stepping::end_of;
-use super::stepping::into;
-use super::stepping::set_of;
+ghost use Rattle.stepping.specs.Stepping.{setOf, Among, FromList, Held, Room, Starts};
+use super::end_of;
+use super::into;
+use super::set_of;
 use explore::map::BLOCK_ARCS;
 use explore::map::BLOCK_STARTS;
 

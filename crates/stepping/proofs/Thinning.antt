@@ -16,9 +16,9 @@ use Rattle.memory.proofs.Laws.{field-same}
 use Rattle.sets.specs.Sets.{inSet}
 use Rattle.sets.specs.Rows.{related}
 use Rattle.sets.proofs.Laws.{row-below, row-same}
-use Rattle.table.specs.Stepping.{Among, setOf}
-use Rattle.table.proofs.LetterSets.{none-met, same-sets}
-use Rattle.table.proofs.Visiting.{among-split, upto}
+use Rattle.stepping.specs.Stepping.{Among, setOf}
+use Rattle.stepping.proofs.LetterSets.{none-met, same-sets}
+use Rattle.stepping.proofs.Visiting.{among-split, upto}
 
 -- the rows of a block are as they were
 abbrev pub SameRows : ℕ → List ℕ → List ℕ → Type 0

@@ -14,8 +14,8 @@ use Rattle.memory.specs.Frame.{Kept}
 use Rattle.memory.proofs.Laws.{kept-same, kept-then}
 use Rattle.sets.specs.Sets.{Next, Within, inSet, view}
 use Rattle.sets.proofs.Laws.{in-view, view-is}
-use Rattle.table.specs.Stepping.{Held, setOf}
-use Rattle.table.proofs.LetterSets.{none-met}
+use Rattle.stepping.specs.Stepping.{Held, setOf}
+use Rattle.stepping.proofs.LetterSets.{none-met}
 
 -- `From` says where a letter leads from a configuration; a step is over it, whether the arcs are listed or stand in the file
 module _ (From : ℕ → ℕ → ℕ → Type 0) where

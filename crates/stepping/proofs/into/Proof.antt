@@ -1,4 +1,4 @@
--- `table::stepping::into` meets its contract. In both arms what is stored is the union of the letter's set, empty where it is not
+-- `stepping::into` meets its contract. In both arms what is stored is the union of the letter's set, empty where it is not
 -- met, and of the row.
 use borrow.Author.Needs.{needs}
 use mathlib.Core.Path.{_∙_, ap, sym}
@@ -6,9 +6,9 @@ use mathlib.Core.Bool.{Bool, _||_}
 use native.Mathlib.Omega.{arith}
 use Rattle.sets.specs.Sets.{inSet}
 use Rattle.sets.proofs.Laws.{empty-set}
-use Rattle.table.proofs.LetterSets.{joined, met-off, met-on, set-off, set-on}
-use Rattle.table.proofs.stepping.into.Statement.{statement}
-use Rattle.table.proofs.stepping.into.Tie as tie
+use Rattle.stepping.proofs.LetterSets.{joined, met-off, met-on, set-off, set-on}
+use Rattle.stepping.proofs.into.Statement.{statement}
+use Rattle.stepping.proofs.into.Tie as tie
 
 returns : tie.Need-returns
 returns c =

@@ -1,10 +1,10 @@
--- `table::stepping::set_of` meets its contract: the test of the mask is the definition's.
+-- `stepping::set_of` meets its contract: the test of the mask is the definition's.
 use borrow.Author.Needs.{needs}
 use mathlib.Core.Path.{_∙_}
 use native.Mathlib.Omega.{arith}
-use Rattle.table.proofs.LetterSets.{met-off, met-on, set-off, set-on}
-use Rattle.table.proofs.stepping.set_of.Statement.{statement}
-use Rattle.table.proofs.stepping.set_of.Tie as tie
+use Rattle.stepping.proofs.LetterSets.{met-off, met-on, set-off, set-on}
+use Rattle.stepping.proofs.set_of.Statement.{statement}
+use Rattle.stepping.proofs.set_of.Tie as tie
 
 returns : tie.Need-returns
 returns c = let t = c .before in let a = t .before .before .args in c .load .ensures ∙ set-on (a .w .now) (a .acc) (a .met) (a .l) (met-on (a .met) (a .l) (omega arith) (t .if1 .taken))

@@ -1,12 +1,12 @@
--- `table::stepping::step` meets its contract. The loop's invariant: the live configurations below c have been visited (Stepping of
+-- `stepping::step` meets its contract. The loop's invariant: the live configurations below c have been visited (Stepping of
 -- proofs/Onward.antt). The measure is how far c is from 256.
 use Prim.Native.Nat.{_-_}
 use native.Mathlib.Omega.{arith}
-use Rattle.table.specs.Stepping.{Among, FromList, Room, startAt}
-use Rattle.table.proofs.BlockFrame.{block-kept, end-few, end-kept, list-kept, room-kept}
-use Rattle.table.proofs.Onward.{Stepping, stepped, stepping-more, stepping-start}
-use Rattle.table.proofs.stepping.step.Statement.{statement}
-use Rattle.table.proofs.stepping.step.Tie as tie
+use Rattle.stepping.specs.Stepping.{Among, FromList, Room, startAt}
+use Rattle.stepping.proofs.BlockFrame.{block-kept, end-few, end-kept, list-kept, room-kept}
+use Rattle.stepping.proofs.Onward.{Stepping, stepped, stepping-more, stepping-start}
+use Rattle.stepping.proofs.step.Statement.{statement}
+use Rattle.stepping.proofs.step.Tie as tie
 
 abbrev Inv-loop : tie.InvT-loop
 Inv-loop w₀ base acc count plain set met₀ c₀ w met c = Stepping (FromList w₀ base count plain) w₀ acc set c w met

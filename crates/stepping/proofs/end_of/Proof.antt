@@ -1,10 +1,10 @@
--- `table::stepping::end_of` meets its contract: the test is the definition's.
+-- `stepping::end_of` meets its contract: the test is the definition's.
 use borrow.Author.Needs.{needs}
 use borrow.Author.Tests.{le-ltb, lt-ltb}
 use Prim.Native.Nat.{_+_}
-use Rattle.table.specs.Stepping.{endAt, startAt}
-use Rattle.table.proofs.stepping.end_of.Statement.{statement}
-use Rattle.table.proofs.stepping.end_of.Tie as tie
+use Rattle.stepping.specs.Stepping.{endAt, startAt}
+use Rattle.stepping.proofs.end_of.Statement.{statement}
+use Rattle.stepping.proofs.end_of.Tie as tie
 
 returns : tie.Need-returns
 unfolding endAt startAt

@@ -14,8 +14,8 @@ use Rattle.memory.specs.Frame.{Kept}
 use Rattle.memory.proofs.Laws.{kept-same, kept-then, kept-wider}
 use Rattle.sets.specs.Sets.{inSet}
 use Rattle.sets.specs.Rows.{related}
-use Rattle.table.specs.Stepping.{Among, Room, setOf}
-use Rattle.table.proofs.BlockFrame.{SameBlock, arc-kept, block-kept, related-kept}
+use Rattle.stepping.specs.Stepping.{Among, Room, setOf}
+use Rattle.stepping.proofs.BlockFrame.{SameBlock, arc-kept, block-kept, related-kept}
 
 -- the end of the list moved
 pub upto : {w : List ℕ} {base from to p j : ℕ} (y : ℕ) (a : Among w base from to p j) → a .at < y → Among w base from y p j

@@ -18,8 +18,7 @@ use Rattle.memory.proofs.Laws.{field-same}
 use Rattle.sets.specs.Sets.{inSet}
 use Rattle.sets.specs.Rows.{related}
 use Rattle.sets.proofs.Laws.{row-same}
-use Rattle.table.specs.Stepping.{Among, FromList, Held, Room, Starts, endAt, startAt}
-use Rattle.table.specs.Words.{Built}
+use Rattle.stepping.specs.Stepping.{Among, FromList, Held, Room, Starts, endAt, startAt}
 
 -- the words of the block are as they were
 pub record SameBlock (base : ℕ) (w w' : List ℕ) : Type 0 where
@@ -105,13 +104,3 @@ module _ {w w' : List ℕ} {base : ℕ} (b : SameBlock base w w') where
 -- what tells the plain arcs tells them still where it says the same of other words
 pub held-same : {count letters : ℕ} {arcs : List PlainArc} {From From' : ℕ → ℕ → ℕ → Type 0} → ((s l j : ℕ) → s < count → From' s l j ↔ From s l j) → Held count letters arcs From → Held count letters arcs From'
 held-same f held = record { within = held .within; covers = λ s l j h g. iff-trans (f s l j h) (held .covers s l j h g) }
-
--- THE LAW. A built automaton is built still.
-pub built-kept : {x : Automaton} {L : ℕ} {w w' : List ℕ} {base k p : ℕ} → SameBlock base w w' → k ≤ 256 → Built x L w base k p → Built x L w' base k p
-built-kept b few built = record {
-  many = built .many;
-  ended = built .ended;
-  rows = λ i j h. rw (related-kept b i j (omega arith)) (built .rows i j h);
-  held = λ h. held-same (λ i l j g. list-kept b i (built .starts h) g refl refl l j) (built .held h);
-  starts = λ h. starts-kept b (built .starts h);
-}

@@ -8,7 +8,6 @@ use native.Mathlib.Decide.{decLt, ℕ-discrete}
 use native.Mathlib.Omega.{arith}
 use borrow.Author.Tests.{eq-eqb, le-ltb, lt-ltb, ltb-true, ne-eqb}
 use lib.Dec.{eqb, ltb}
-use Rattle.automata.specs.Automaton.{Automaton, letters}
 use Rattle.automata.specs.Live.{PlainArc}
 use Rattle.automata.proofs.ListLaws.{iff-trans}
 use Rattle.explore.specs.Map.{KeptBut, arcsAt, blockEnd, startsAt}
@@ -16,10 +15,9 @@ use Rattle.explore.proofs.Frames.{but-high, but-same, but-then, but-wider}
 use Rattle.memory.specs.Fields.{field}
 use Rattle.memory.specs.Frame.{Kept}
 use Rattle.memory.proofs.Laws.{field-same}
-use Rattle.table.specs.Stepping.{Among, FromList, Held, Starts, endAt, startAt}
-use Rattle.table.specs.Words.{Built}
-use Rattle.table.proofs.BlockFrame.{end-below}
-use Rattle.table.proofs.Thinning.{SameRows, among-same, rows-kept}
+use Rattle.stepping.specs.Stepping.{Among, FromList, Held, Starts, endAt, startAt}
+use Rattle.stepping.proofs.BlockFrame.{end-below}
+use Rattle.stepping.proofs.Thinning.{SameRows, among-same, rows-kept}
 
 -- the first c configurations have been pruned: what is left of them is listed before `kept`, and tells what was listed
 pub record Pruning (w₀ : List ℕ) (base acc count plain c : ℕ) (w : List ℕ) (kept : ℕ) : Type 0 where
@@ -172,15 +170,3 @@ module _ {w₀ w : List ℕ} {base acc count plain c kept : ℕ} (h : count ≤ 
     within = held .within;
     covers = λ s l j g m. iff-trans (rw all at (v .told s l j (omega (arith, all)) (omega arith))) (held .covers s l j g m);
   }
-
--- A built automaton is built still.
-pub built-pruned : {x : Automaton} {L : ℕ} {w w' : List ℕ} {base acc k p r : ℕ} → Built x L w base k p → p ≤ 2048 → k ≤ 256 → letters x ≤ 64 → acc + 256 ≤ base
-    → KeptBut acc (acc + 256) (arcsAt base) (blockEnd base) w w' → Starts w' base k r
-    → ((letters : ℕ) (arcs : List PlainArc) → letters ≤ 64 → Held k letters arcs (FromList w base k p) → Held k letters arcs (FromList w' base k r)) → Built x L w' base k r
-built-pruned {x} {base = base} {acc = acc} b listed few short apart frame starts held = record {
-  many = b .many;
-  ended = b .ended;
-  rows = λ i j h. rw (rows-kept base acc frame apart i j (omega arith)) (b .rows i j h);
-  held = λ h. held (letters x) _ short (b .held listed);
-  starts = λ h. starts;
-}

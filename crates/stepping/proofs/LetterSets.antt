@@ -11,7 +11,7 @@ use Rattle.memory.specs.Frame.{Kept}
 use Rattle.sets.specs.Sets.{bit, inSet}
 use Rattle.sets.specs.Rows.{related, row}
 use Rattle.sets.proofs.Laws.{bit-with, bit-zero, has-bit, row-other, empty-set}
-use Rattle.table.specs.Stepping.{setOf}
+use Rattle.stepping.specs.Stepping.{setOf}
 
 -- the mask of letter l, as the code makes it
 abbrev pub maskOf : ℕ → ℕ

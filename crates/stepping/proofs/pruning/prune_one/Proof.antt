@@ -1,14 +1,14 @@
--- `table::pruning::prune_one` meets its contract. The loop's invariant: of the arcs before k those that add something are listed
+-- `stepping::pruning::prune_one` meets its contract. The loop's invariant: of the arcs before k those that add something are listed
 -- from `kept` on (Thinning).
 use mathlib.Core.Path.{subst, sym}
 use mathlib.Core.Logic.{inl, ⊎-elim}
 use Prim.Native.Nat.{_-_}
 use native.Mathlib.Omega.{arith}
 use lib.Dec.{T}
-use Rattle.table.specs.Stepping.{Room}
-use Rattle.table.proofs.Thinning.{Thinning, thinning-end, thinning-more, thinning-skip, thinning-start}
-use Rattle.table.proofs.pruning.prune_one.Statement.{statement}
-use Rattle.table.proofs.pruning.prune_one.Tie as tie
+use Rattle.stepping.specs.Stepping.{Room}
+use Rattle.stepping.proofs.Thinning.{Thinning, thinning-end, thinning-more, thinning-skip, thinning-start}
+use Rattle.stepping.proofs.pruning.prune_one.Statement.{statement}
+use Rattle.stepping.proofs.pruning.prune_one.Tie as tie
 
 abbrev Inv-loop : tie.InvT-loop
 Inv-loop w₀ base acc from to kept met₀ end₀ k₀ w met end k = Thinning w₀ base acc from to kept k w met end

@@ -1,12 +1,12 @@
--- `table::pruning::prune` meets its contract. The loop's invariant: the configurations before c have been pruned (Pruning).
+-- `stepping::pruning::prune` meets its contract. The loop's invariant: the configurations before c have been pruned (Pruning).
 use Prim.Native.Nat.{_-_}
 use native.Mathlib.Omega.{arith}
 use Rattle.explore.proofs.Frames.{but-same}
-use Rattle.table.specs.Stepping.{startAt}
-use Rattle.table.proofs.BlockFrame.{end-below}
-use Rattle.table.proofs.Pruned.{Pruning, from-was, pruned-held, pruned-starts, pruning-more, pruning-start, to-was}
-use Rattle.table.proofs.pruning.prune.Statement.{statement}
-use Rattle.table.proofs.pruning.prune.Tie as tie
+use Rattle.stepping.specs.Stepping.{startAt}
+use Rattle.stepping.proofs.BlockFrame.{end-below}
+use Rattle.stepping.proofs.Pruned.{Pruning, from-was, pruned-held, pruned-starts, pruning-more, pruning-start, to-was}
+use Rattle.stepping.proofs.pruning.prune.Statement.{statement}
+use Rattle.stepping.proofs.pruning.prune.Tie as tie
 
 abbrev Inv-loop : tie.InvT-loop
 Inv-loop w₀ base acc count plain kept₀ c₀ w kept c = Pruning w₀ base acc count plain c w kept

@@ -1,12 +1,12 @@
--- `table::stepping::visit` meets its contract. The loop's invariant: the arcs before k have joined the sets of their letters (Visiting).
+-- `stepping::visit` meets its contract. The loop's invariant: the arcs before k have joined the sets of their letters (Visiting).
 use mathlib.Core.Logic.{⊎-elim}
 use Prim.Native.Nat.{_-_}
 use native.Mathlib.Omega.{arith}
-use Rattle.table.specs.Stepping.{Room}
-use Rattle.table.proofs.BlockFrame.{block-kept, room-kept}
-use Rattle.table.proofs.Visiting.{Visiting, visiting-end, visiting-more, visiting-skip, visiting-start}
-use Rattle.table.proofs.stepping.visit.Statement.{statement}
-use Rattle.table.proofs.stepping.visit.Tie as tie
+use Rattle.stepping.specs.Stepping.{Room}
+use Rattle.stepping.proofs.BlockFrame.{block-kept, room-kept}
+use Rattle.stepping.proofs.Visiting.{Visiting, visiting-end, visiting-more, visiting-skip, visiting-start}
+use Rattle.stepping.proofs.visit.Statement.{statement}
+use Rattle.stepping.proofs.visit.Tie as tie
 
 abbrev Inv-loop : tie.InvT-loop
 Inv-loop w₀ base acc from to met out₀ k₀ w out k = Visiting w₀ base acc from to met k w out

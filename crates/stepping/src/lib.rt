@@ -1,4 +1,4 @@
-// Stepping: from a live set by one more letter, for all letters at once. Each letter that is met has its set in a row from `acc`
+// stepping: from a live set by one more letter, for all letters at once. Each letter that is met has its set in a row from `acc`
 // on; the mask `met` says which are, so nothing has to be cleared before.
 ghost use mathlib.Core.Path.{_≡_};
 ghost use mathlib.Core.Logic.{_↔_, _⊎_};
@@ -12,9 +12,11 @@ ghost use Rattle.explore.specs.Map.{blockEnd};
 ghost use Rattle.memory.specs.Frame.{Kept};
 ghost use Rattle.sets.specs.Sets.{inSet, view, Within};
 ghost use Rattle.sets.specs.Rows.{related};
-ghost use Rattle.table.specs.Stepping.{setOf, endAt, Among, FromList, Held, Room, Starts};
+ghost use Rattle.stepping.specs.Stepping.{setOf, endAt, Among, FromList, Held, Room, Starts};
 use explore::map::BLOCK_ARCS;
 use explore::map::BLOCK_STARTS;
+
+pub mod pruning;
 
 // The set of letter l; empty where l is not met.
 // Cost: constant.

@@ -1,4 +1,4 @@
--- `table::pruning::adds` meets its contract: of an arc of a letter the test is the contract's.
+-- `stepping::pruning::adds` meets its contract: of an arc of a letter the test is the contract's.
 use borrow.Author.Needs.{needs}
 use mathlib.Core.Path.{subst, sym}
 use mathlib.Core.Bool.{Bool, false, not, true}
@@ -8,8 +8,8 @@ use native.Mathlib.Omega.{arith}
 use lib.Dec.{T}
 use Rattle.sets.specs.Sets.{inSet}
 use Rattle.sets.specs.Rows.{related}
-use Rattle.table.proofs.pruning.adds.Statement.{statement}
-use Rattle.table.proofs.pruning.adds.Tie as tie
+use Rattle.stepping.proofs.pruning.adds.Statement.{statement}
+use Rattle.stepping.proofs.pruning.adds.Tie as tie
 
 -- what is not false
 not-not : (b : Bool) → ¬ (T (not b)) → T b

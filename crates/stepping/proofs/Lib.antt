@@ -1,0 +1,6 @@
+pub mod LetterSets
+pub mod BlockFrame
+pub mod Visiting
+pub mod Onward
+pub mod Thinning
+pub mod Pruned
