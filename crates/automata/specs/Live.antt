@@ -4,7 +4,7 @@ use Prim.Native.Nat.{ℕ, zero, suc}
 use mathlib.Core.List.{List, [], _∷_, List·Memᴰ}
 use mathlib.Core.Option.{Option, none, some}
 use mathlib.Core.Bool.{Bool, true, false, _&&_, _||_}
-use lib.Dec.{eqb}
+use lib.Dec.{T, eqb}
 use lib.ListN.{getD}
 use Rattle.automata.specs.Lists.{any, sameLetter}
 
@@ -25,6 +25,10 @@ table (suc k) f = f 0 ∷ table k (λ i. f (suc i))
 -- is j in the set S?
 abbrev pub in? : List Bool → ℕ → Bool
 in? S j = getD S j false
+
+-- no empty move leaves S
+abbrev pub Closed : List PlainArc → List Bool → Type 0
+Closed arcs S = (i j : ℕ) → T (in? S i) → Moves arcs i none j → T (in? S j)
 
 -- how many members S has
 unfoldable pub count : List Bool → ℕ

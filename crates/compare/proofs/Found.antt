@@ -79,8 +79,8 @@ module _ {x y : Automaton} {L : ℕ} {w₀ : List ℕ} {k p : ℕ} {f : List ℕ
     held₂ = subst (λ (a : ℕ). Held m a (plainArcs y L) (FromList w₀ secondBlock m q)) (ap length (c .shared) ∙ sym many-letters) (c .second .built .held (c .second .listed));
     start₁ = row-start (c .first .built) .0;
     start₂ = row-start (c .second .built) .0;
-    within₁ = row-start (c .first .built) .1;
-    within₂ = row-start (c .second .built) .1;
+    settled₁ = row-start (c .first .built) .1;
+    settled₂ = row-start (c .second .built) .1;
   }
 
   -- what searching leaves

@@ -7,7 +7,6 @@ use Prim.Native.Nat.{ℕ, _+_, _≤_}
 use native.Mathlib.Omega.{arith}
 use lib.Dec.{ltb}
 use Rattle.automata.specs.Automaton.{Automaton, letters}
-use Rattle.automata.specs.Live.{PlainArc}
 use Rattle.explore.specs.Arcs.{Indexed, Linked}
 use Rattle.explore.specs.Explores.{exploredOf}
 use Rattle.explore.specs.Map.{KeptBut, Placed, arcsAt, blockEnd}
@@ -22,7 +21,7 @@ use Rattle.file_laws.proofs.ValidLaws.{valid-decoded, valid-letters}
 use Rattle.writing.proofs.FileParts.{valid-alphabet}
 use Rattle.sets.specs.Sets.{inSet}
 use Rattle.table.specs.Finals.{isFinalIn}
-use Rattle.stepping.specs.Stepping.{FromList, Held, Starts}
+use Rattle.stepping.specs.Stepping.{Starts, ToldStill}
 use Rattle.table.specs.Words.{Builds, BuiltAs, Ready, letterSets}
 use Rattle.table.proofs.Accepting.{built-ready}
 use Rattle.stepping.proofs.BlockFrame.{SameBlock}
@@ -56,6 +55,6 @@ letters-few file c e = let v = valid-letters file c e in rw (valid-alphabet file
 -- listed arcs that add nothing are dropped
 pub loaded-pruned : (file : List ℕ) {w w' : List ℕ} {c : Counts} {base k p r : ℕ} {f : List ℕ} → readingOf file ≡ Valid c → Loaded (automatonOf file) 256 w base k p f → letterSets + 256 ≤ base
     → KeptBut letterSets (letterSets + 256) (arcsAt base) (blockEnd base) w w' → Starts w' base k r
-    → ((letters : ℕ) (arcs : List PlainArc) → letters ≤ 64 → Held k letters arcs (FromList w base k p) → Held k letters arcs (FromList w' base k r)) → Loaded (automatonOf file) 256 w' base k r f
+    → ToldStill w w' base k p r → Loaded (automatonOf file) 256 w' base k r f
 loaded-pruned file {c = c} e l apart frame starts held =
     record { built = built-pruned (l .built) (l .listed) (l .built .ended) (letters-few file c e) apart frame starts held; listed = starts .less; finals = l .finals }

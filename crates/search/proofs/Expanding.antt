@@ -12,7 +12,7 @@ use Rattle.automata.specs.Pairs.{Pair}
 use Rattle.automata.specs.Search.{Entry}
 use Rattle.memory.specs.Frame.{Kept}
 use Rattle.memory.proofs.Laws.{kept-then, kept-wider}
-use Rattle.sets.specs.Sets.{Within, view}
+use Rattle.sets.specs.Sets.{Settled, view}
 use Rattle.sets.specs.Rows.{row}
 use Rattle.sets.proofs.Laws.{row-below}
 use Rattle.stepping.specs.Stepping.{FromList, Held, Starts, setOf}
@@ -25,14 +25,14 @@ use Rattle.search.proofs.Frames.{behind-same, held-kept, set-same}
 -- what a step from the set u tells of the set x that it leaves for letter l
 abbrev pub Stepped : (count a : ℕ) (From : ℕ → ℕ → ℕ → Type 0) (u : List ℕ) (sets : ℕ → List ℕ) → Type 0
 Stepped count a From u sets =
-    (letters : ℕ) (arcs : List PlainArc) → Held count letters arcs From → letters ≤ 64 → Within count u → (l : ℕ) → l < letters
-    → (view count (sets l) ≡ byLetter count arcs (view count u) l) × Within count (sets l)
+    (letters : ℕ) (arcs : List PlainArc) → Held count letters arcs From → letters ≤ 64 → Settled count arcs u → (l : ℕ) → l < letters
+    → (view count (sets l) ≡ byLetter count arcs (view count u) l) × Settled count arcs (sets l)
 
 -- of a side with as many configurations, from the live set S
-behind : (s : Side) (S : List Bool) (l : ℕ) (x : List ℕ) {count : ℕ} {u v : List ℕ} → s .size ≡ count → u ≡ v → view (s .size) v ≡ S → Within (s .size) v
-    → (Within count u → (view count x ≡ byLetter count (s .arcs) (view count u) l) × Within count x) → Behind s S l x
+behind : (s : Side) (S : List Bool) (l : ℕ) (x : List ℕ) {count : ℕ} {u v : List ℕ} → s .size ≡ count → u ≡ v → view (s .size) v ≡ S → Settled (s .size) (s .arcs) v
+    → (Settled count (s .arcs) u → (view count x ≡ byLetter count (s .arcs) (view count u) l) × Settled count (s .arcs) x) → Behind s S l x
 behind s S l x {count} {u} e eu ev wv f =
-    let g = subst (λ (k : ℕ). Within k u → (view k x ≡ byLetter k (s .arcs) (view k u) l) × Within k x) (sym e) f (subst (λ (y : List ℕ). Within (s .size) y) (sym eu) wv) in
+    let g = subst (λ (k : ℕ). Settled k (s .arcs) u → (view k x ≡ byLetter k (s .arcs) (view k u) l) × Settled k (s .arcs) x) (sym e) f (subst (λ (y : List ℕ). Settled (s .size) (s .arcs) y) (sym eu) wv) in
     (g .0 ∙ ap (λ (T : List Bool). byLetter (s .size) (s .arcs) T l) (ap (view (s .size)) eu ∙ ev), g .1)
 
 module _ {a count₁ plain₁ count₂ plain₂ : ℕ} {w w₁ w₂ u v : List ℕ} (i from met₁ met₂ : ℕ) (ready : Ready a w count₁ plain₁ count₂ plain₂)
@@ -44,8 +44,8 @@ module _ {a count₁ plain₁ count₂ plain₂ : ℕ} {w w₁ w₂ u v : List �
   letter-sets s t es e b h p l hl =
       let r = h .each i e p in (
         behind-same s (e .state .left) l (set-same w₁ w₂ firstSets met₁ l (row-below firstSets l k₂ (omega (arith, ready .few))))
-            (behind s (e .state .left) l (setOf w₁ firstSets met₁ l) (b .size₁) eu (r .left) (r .within₁) (λ x. f₁ a (s .arcs) (b .held₁) (ready .few) x l hl)),
-        behind t (e .state .right) l (setOf w₂ secondSets met₂ l) (b .size₂) ev (r .right) (r .within₂)
+            (behind s (e .state .left) l (setOf w₁ firstSets met₁ l) (b .size₁) eu (r .left) (r .settled₁) (λ x. f₁ a (s .arcs) (b .held₁) (ready .few) x l hl)),
+        behind t (e .state .right) l (setOf w₂ secondSets met₂ l) (b .size₂) ev (r .right) (r .settled₂)
             (λ x. f₂ a (t .arcs) (held-kept (block-kept k₁ (inl (omega arith))) (ready .second) (b .held₂)) (ready .few) x l hl),
       )
 

@@ -13,7 +13,7 @@ use Rattle.automata.proofs.ListLaws.{getElem?-lt}
 use Rattle.memory.specs.Fields.{field}
 use Rattle.memory.specs.Frame.{Kept}
 use Rattle.memory.proofs.Laws.{chain-kept, field-same}
-use Rattle.sets.specs.Sets.{Within, bit, view}
+use Rattle.sets.specs.Sets.{Settled, bit, view}
 use Rattle.sets.specs.Rows.{row}
 use Rattle.sets.proofs.Laws.{row-above, row-below}
 use Rattle.stepping.specs.Stepping.{FromList, Held, Room, Starts, setOf}
@@ -42,7 +42,7 @@ ready-kept k r = record {
 
 pub both-kept : {a : ℕ} {s t : Side} {w w' : List ℕ} {count₁ plain₁ count₂ plain₂ : ℕ} → Kept 0 firstBlock w w' → Ready a w count₁ plain₁ count₂ plain₂
     → Both a s t w count₁ plain₁ count₂ plain₂ → Both a s t w' count₁ plain₁ count₂ plain₂
-both-kept {count₁ = count₁} {count₂ = count₂} k r b =
+both-kept {s = s} {t} {count₁ = count₁} {count₂ = count₂} k r b =
     let e = first-row {base = firstBlock} k (omega arith) in
     let f = first-row {base = secondBlock} k (omega arith) in
     record {
@@ -52,8 +52,8 @@ both-kept {count₁ = count₁} {count₂ = count₂} k r b =
       held₂ = held-kept (block-kept k (inl (omega arith))) (r .second) (b .held₂);
       start₁ = ap (view count₁) e ∙ b .start₁;
       start₂ = ap (view count₂) f ∙ b .start₂;
-      within₁ = subst (λ (x : List ℕ). Within count₁ x) (sym e) (b .within₁);
-      within₂ = subst (λ (x : List ℕ). Within count₂ x) (sym f) (b .within₂);
+      settled₁ = subst (λ (x : List ℕ). Settled count₁ (s .arcs) x) (sym e) (b .settled₁);
+      settled₂ = subst (λ (x : List ℕ). Settled count₂ (t .arcs) x) (sym f) (b .settled₂);
     }
 
 -- what the steps ask
@@ -73,7 +73,7 @@ pub set-above : {w w' : List ℕ} (acc met l : ℕ) → Kept 0 pairsEnd w w' →
 set-above {w} {w'} acc met l k h = set-same w w' acc met l (row-above acc l k (omega arith))
 
 pub behind-same : (s : Side) (S : List Bool) (l : ℕ) {u v : List ℕ} → v ≡ u → Behind s S l u → Behind s S l v
-behind-same s S l e b = (ap (view (s .size)) e ∙ b .0, subst (λ (x : List ℕ). Within (s .size) x) (sym e) (b .1))
+behind-same s S l e b = (ap (view (s .size)) e ∙ b .0, subst (λ (x : List ℕ). Settled (s .size) (s .arcs) x) (sym e) (b .1))
 
 -- ---- the table
 module _ {b : ℕ} {w w' : List ℕ} (k : Kept pairsEnd b w w') where
@@ -112,8 +112,8 @@ module _ {b : ℕ} {w w' : List ℕ} (k : Kept pairsEnd b w w') where
         record {
           left = ap (view (s .size)) f ∙ r .left;
           right = ap (view (t .size)) g ∙ r .right;
-          within₁ = subst (λ (x : List ℕ). Within (s .size) x) (sym f) (r .within₁);
-          within₂ = subst (λ (x : List ℕ). Within (t .size) x) (sym g) (r .within₂);
+          settled₁ = subst (λ (x : List ℕ). Settled (s .size) (s .arcs) x) (sym f) (r .settled₁);
+          settled₂ = subst (λ (x : List ℕ). Settled (t .size) (t .arcs) x) (sym g) (r .settled₂);
           spelled = ⊎-elim (λ o. inl o) (λ c. inr (child-kept l c)) (r .spelled);
         };
   }

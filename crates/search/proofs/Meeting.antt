@@ -18,7 +18,7 @@ use Rattle.automata.proofs.PairLaws.{samePair-iff}
 use Rattle.memory.specs.Fields.{field}
 use Rattle.memory.specs.Frame.{Kept}
 use Rattle.memory.proofs.Laws.{kept-same}
-use Rattle.sets.specs.Sets.{Within, inSet, view}
+use Rattle.sets.specs.Sets.{Settled, Within, inSet, view}
 use Rattle.sets.specs.Rows.{row}
 use Rattle.sets.proofs.Laws.{in-view}
 use Rattle.pairs.specs.Map.{parents, pairsEnd}
@@ -73,7 +73,7 @@ same-members {n} s t ws wt e j =
     bool-ext (inSet s j) (inSet t j) (λ x. in-view n t j .0 (rw e at (in-view n s j .1 (ws j x, x))) .1) (λ x. in-view n s j .0 (rw (← e) at (in-view n t j .1 (wt j x, x))) .1)
 
 module _ (s t : Side) (w : List ℕ) (n : ℕ) (u v : List ℕ) (es : List (Entry Pair)) (x : Entry Pair) (h : Holds s t w n es)
-    (p : (view (s .size) u ≡ x .state .left) × Within (s .size) u) (q : (view (t .size) v ≡ x .state .right) × Within (t .size) v) where
+    (p : (view (s .size) u ≡ x .state .left) × Settled (s .size) (s .arcs) u) (q : (view (t .size) v ≡ x .state .right) × Settled (t .size) (t .arcs) v) where
   lacks-none : Lacking w n u v → ¬ T (has alike x es)
   lacks-none k c =
       let y = (has-iff alike x es) .0 c in
@@ -81,8 +81,8 @@ module _ (s t : Side) (w : List ℕ) (n : ℕ) (u v : List ℕ) (es : List (Entr
       let r = h .each (m .0) (y .0) (m .1) in
       let e : x .state ≡ y .0 .state = (samePair-iff (x .state) (y .0 .state)) .0 (y .2) in
       k (m .0) (omega (arith, getElem?-lt es (m .0) (m .1), h .many))
-      (same-members (row w 0 (2 * m .0)) u (r .within₁) (p .1) (r .left ∙ ap (λ (z : Pair). z .left) (sym e) ∙ sym (p .0)))
-      (same-members (row w 0 (2 * m .0 + 1)) v (r .within₂) (q .1) (r .right ∙ ap (λ (z : Pair). z .right) (sym e) ∙ sym (q .0)))
+      (same-members (row w 0 (2 * m .0)) u (r .settled₁ .0) (p .1 .0) (r .left ∙ ap (λ (z : Pair). z .left) (sym e) ∙ sym (p .0)))
+      (same-members (row w 0 (2 * m .0 + 1)) v (r .settled₂ .0) (q .1 .0) (r .right ∙ ap (λ (z : Pair). z .right) (sym e) ∙ sym (q .0)))
 
   has-old : (place : ℕ) → place < n → PairAt w u v place → T (has alike x es)
   has-old place l at =
@@ -103,8 +103,8 @@ module _ (s t : Side) (w : List ℕ) (n : ℕ) (u v : List ℕ) (es : List (Entr
         new = record {
           left = ap (view (s .size)) (d .new .0) ∙ p .0;
           right = ap (view (t .size)) (d .new .1) ∙ q .0;
-          within₁ = subst (λ (r : List ℕ). Within (s .size) r) (sym (d .new .0)) (p .1);
-          within₂ = subst (λ (r : List ℕ). Within (t .size) r) (sym (d .new .1)) (q .1);
+          settled₁ = subst (λ (r : List ℕ). Settled (s .size) (s .arcs) r) (sym (d .new .0)) (p .1);
+          settled₂ = subst (λ (r : List ℕ). Settled (t .size) (t .arcs) r) (sym (d .new .1)) (q .1);
           spelled = inr (record {
             later = omega (arith, getElem?-lt es i stands, h .many);
             parent = e;
@@ -121,8 +121,8 @@ module _ (s t : Side) (w : List ℕ) (n : ℕ) (u v : List ℕ) (es : List (Entr
             record {
               left = ap (view (s .size)) (o .0) ∙ r .left;
               right = ap (view (t .size)) (o .1) ∙ r .right;
-              within₁ = subst (λ (r : List ℕ). Within (s .size) r) (sym (o .0)) (r .within₁);
-              within₂ = subst (λ (r : List ℕ). Within (t .size) r) (sym (o .1)) (r .within₂);
+              settled₁ = subst (λ (r : List ℕ). Settled (s .size) (s .arcs) r) (sym (o .0)) (r .settled₁);
+              settled₂ = subst (λ (r : List ℕ). Settled (t .size) (t .arcs) r) (sym (o .1)) (r .settled₂);
               spelled = ⊎-elim (λ b. inl b) (λ c. inr (record {
                 later = c .later;
                 parent = c .parent;

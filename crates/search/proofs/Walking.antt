@@ -15,7 +15,7 @@ use Rattle.automata.proofs.ExplorationLaws.{known-ended, known-long}
 use Rattle.automata.proofs.ListLaws.{getElem?-some, none-some}
 use Rattle.memory.specs.Frame.{Kept}
 use Rattle.memory.proofs.Laws.{kept-same, kept-then}
-use Rattle.sets.specs.Sets.{Within, view}
+use Rattle.sets.specs.Sets.{Settled, view}
 use Rattle.sets.specs.Rows.{row}
 use Rattle.pairs.specs.Map.{firstBlock, secondBlock}
 use Rattle.pairs.specs.Entries.{Holds, Row, Side, alike, along, begin}
@@ -114,18 +114,18 @@ holds-start s t {w} {w'} {u} {v} b eu ev d = record { many = refl; each = go }
     start : Entry Pair
     start = origin (begin s t)
 
-    first : (view (s .size) u ≡ live (s .size) (s .arcs) []) × Within (s .size) u
-    first = rw (b .size₁, eu) (b .start₁, b .within₁)
+    first : (view (s .size) u ≡ live (s .size) (s .arcs) []) × Settled (s .size) (s .arcs) u
+    first = rw (b .size₁, eu) (b .start₁, b .settled₁)
 
-    second : (view (t .size) v ≡ live (t .size) (t .arcs) []) × Within (t .size) v
-    second = rw (b .size₂, ev) (b .start₂, b .within₂)
+    second : (view (t .size) v ≡ live (t .size) (t .arcs) []) × Settled (t .size) (t .arcs) v
+    second = rw (b .size₂, ev) (b .start₂, b .settled₂)
 
     own : Row s t w' (start ∷ []) 0 start
     own = record {
       left = ap (view (s .size)) (d .new .0) ∙ first .0;
       right = ap (view (t .size)) (d .new .1) ∙ second .0;
-      within₁ = subst (λ (r : List ℕ). Within (s .size) r) (sym (d .new .0)) (first .1);
-      within₂ = subst (λ (r : List ℕ). Within (t .size) r) (sym (d .new .1)) (second .1);
+      settled₁ = subst (λ (r : List ℕ). Settled (s .size) (s .arcs) r) (sym (d .new .0)) (first .1);
+      settled₂ = subst (λ (r : List ℕ). Settled (t .size) (t .arcs) r) (sym (d .new .1)) (second .1);
       spelled = inl (refl, refl);
     }
 

@@ -38,7 +38,7 @@ pub judge-entry : (w : List ℕ) (i n : ℕ) (f g : List ℕ) (r : ℕ) → Judg
 unfolding takerBy
 judge-entry w i n f g r told s t es e h p =
     let o = h .each i e p in
-    sym (told (s .size) (t .size) (o .within₁) (o .within₂) ∙ ap₂ (λ (S R : List Bool). alone (meets S (view (s .size) f)) (meets R (view (t .size) g))) (o .left) (o .right))
+    sym (told (s .size) (t .size) (o .settled₁ .0) (o .settled₂ .0) ∙ ap₂ (λ (S R : List Bool). alone (meets S (view (s .size) f)) (meets R (view (t .size) g))) (o .left) (o .right))
 
 -- none of the first i entries differs
 abbrev pub NoneBefore : (w : List ℕ) (n : ℕ) (f g : List ℕ) (i : ℕ) → Type 0

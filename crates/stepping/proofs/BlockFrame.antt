@@ -1,16 +1,16 @@
 -- BlockFrame: words written elsewhere leave a block as it was, and what it stands for.
 use mathlib.Core.Path.{_∙_, _≡_, ap, refl, subst, sym}
-use mathlib.Core.Logic.{_↔_, _⊎_, ⊎-elim}
+use mathlib.Core.Logic.{_↔_, _⊎_, inl, inr, ⊎-elim}
 use mathlib.Core.Bool.{Bool, cond, false, true}
-use mathlib.Core.List.{List}
+use mathlib.Core.List.{List, List·Memᴰ}
 use Prim.Native.Nat.{_%_, _*_, _+_, _/_, _<_, _≤_, ℕ}
 use native.Mathlib.Omega.{arith}
 use borrow.Author.Tests.{ltb-true}
 use lib.Dec.{T, ltb}
 use lib.ListN.{getD, length}
-use Rattle.automata.specs.Automaton.{Automaton}
+use Rattle.automata.specs.Automaton.{stay}
 use Rattle.automata.specs.Live.{PlainArc}
-use Rattle.automata.proofs.ListLaws.{iff-trans}
+use Rattle.automata.proofs.LiveLaws.{run-below}
 use Rattle.explore.specs.Map.{KeptBut, arcsAt, blockEnd, startsAt}
 use Rattle.memory.specs.Fields.{field}
 use Rattle.memory.specs.Frame.{Kept}
@@ -18,7 +18,7 @@ use Rattle.memory.proofs.Laws.{field-same}
 use Rattle.sets.specs.Sets.{inSet}
 use Rattle.sets.specs.Rows.{related}
 use Rattle.sets.proofs.Laws.{row-same}
-use Rattle.stepping.specs.Stepping.{Among, FromList, Held, Room, Starts, endAt, startAt}
+use Rattle.stepping.specs.Stepping.{Among, Covered, FromList, Held, Reached, Room, Starts, endAt, startAt}
 
 -- the words of the block are as they were
 pub record SameBlock (base : ℕ) (w w' : List ℕ) : Type 0 where
@@ -101,6 +101,23 @@ module _ {w w' : List ℕ} {base : ℕ} (b : SameBlock base w w') where
       let end : to ≡ endAt w base count plain c = et ∙ end-kept count plain c (s .few) in
       rw (← start, ← end) (among-kept from to p j (omega (arith, end, end-few c s)))
 
+  pub covered-kept : {count plain i p j : ℕ} → Starts w base count plain → i < 256 → Covered w base count plain i p j → Covered w' base count plain i p j
+  covered-kept {i = i} {p} {j} s h e = record {
+    source = e .source;
+    below = e .below;
+    near = ⊎-elim (λ q. inl q) (λ t. inr (subst T (sym (related-kept i (e .source) h)) t)) (e .near);
+    leads = (list-kept (e .source) s (e .below) refl refl p j) .1 (e .leads);
+  }
+
+-- what tells each configuration's plain arcs, tells the plain arcs
+pub held-each : {n letters : ℕ} {arcs : List PlainArc} {From : ℕ → ℕ → ℕ → Type 0} → ((a : PlainArc) → List·Memᴰ a arcs → a .target < n)
+    → ((s l j : ℕ) → s < n → l < letters → From s l j ↔ Reached arcs s l j) → Held n letters arcs From
+held-each inside f = record { within = inside; sound = λ s l j h g. (f s l j h g) .0; full = λ s l j h g r. (s, stay, (f s l j h g) .1 r) }
+
 -- what tells the plain arcs tells them still where it says the same of other words
 pub held-same : {count letters : ℕ} {arcs : List PlainArc} {From From' : ℕ → ℕ → ℕ → Type 0} → ((s l j : ℕ) → s < count → From' s l j ↔ From s l j) → Held count letters arcs From → Held count letters arcs From'
-held-same f held = record { within = held .within; covers = λ s l j h g. iff-trans (f s l j h) (held .covers s l j h g) }
+held-same {count} {arcs = arcs} f held = record {
+  within = held .within;
+  sound = λ s l j h g a. held .sound s l j h g ((f s l j h) .0 a);
+  full = λ s l j h g r. let q = held .full s l j h g r in (q .0, q .1, (f (q .0) l j (run-below count arcs (held .within) h (q .1))) .1 (q .2));
+}

@@ -9,10 +9,10 @@ use native.Mathlib.Omega.{arith}
 use lib.Dec.{T}
 use Rattle.automata.specs.Automaton.{Run}
 use Rattle.automata.specs.Live.{Moves, PlainArc, byLetter, in?}
-use Rattle.automata.proofs.LiveLaws.{byLetter-iff, length-byLetter, run-below}
+use Rattle.automata.proofs.LiveLaws.{byLetter-closed, byLetter-iff, closed-run, length-byLetter, run-below}
 use Rattle.memory.specs.Frame.{Kept}
 use Rattle.memory.proofs.Laws.{kept-same, kept-then}
-use Rattle.sets.specs.Sets.{Next, Within, inSet, view}
+use Rattle.sets.specs.Sets.{Next, Settled, inSet, view}
 use Rattle.sets.proofs.Laws.{in-view, view-is}
 use Rattle.stepping.specs.Stepping.{Held, setOf}
 use Rattle.stepping.proofs.LetterSets.{none-met}
@@ -63,7 +63,7 @@ module _ (From : ℕ → ℕ → ℕ → Type 0) where
 
   -- THE LAW. The sets that a step leaves are those behind one more letter
   module _ {w₀ w : List ℕ} {acc count : ℕ} {set : List ℕ} {c met : ℕ} (h : count ≤ c) (k : Stepping w₀ acc set c w met)
-      (letters : ℕ) (arcs : List PlainArc) (held : Held count letters arcs From) (few : letters ≤ 64) (ws : Within count set) (l : ℕ) (hl : l < letters) where
+      (letters : ℕ) (arcs : List PlainArc) (held : Held count letters arcs From) (few : letters ≤ 64) (ws : Settled count arcs set) (l : ℕ) (hl : l < letters) where
     Went : ℕ → Type 0
     Went j = (s t : ℕ) × T (inSet set s) × Moves arcs s (some l) t × Run (Moves arcs) t [] j
 
@@ -71,26 +71,23 @@ module _ (From : ℕ → ℕ → ℕ → Type 0) where
     unfolding Went
     went j = (
       λ t. let o = (k .sets l j (omega arith)) .0 t in
-          let m = (held .covers (o .source) l j (ws (o .source) (o .lives)) hl) .0 (o .leads) in
+          let m = held .sound (o .source) l j (ws .0 (o .source) (o .lives)) hl (o .leads) in
           (o .source, m .0, o .lives, m .1, m .2),
-      λ p. (k .sets l j (omega arith)) .1 (record {
-        source = p .0;
-        lives = p .2;
-        below = omega (arith, ws (p .0) (p .2));
-        leads = (held .covers (p .0) l j (ws (p .0) (p .2)) hl) .1 (p .1, p .3, p .4);
-      }),
+      λ p. let f = held .full (p .0) l j (ws .0 (p .0) (p .2)) hl (p .1, p .3, p .4) in
+          let q = (in-view count set (f .0)) .0 (closed-run (view count set) (ws .1) ((in-view count set (p .0)) .1 (ws .0 (p .0) (p .2), p .2)) (f .1)) in
+          (k .sets l j (omega arith)) .1 (record { source = f .0; lives = q .1; below = omega (arith, q .0); leads = f .2 }),
     )
 
     same : (j : ℕ) → T (inSet (setOf w acc met l) j) ↔ T (in? (byLetter count arcs (view count set) l) j)
     unfolding Went
     same j = (
-      λ t. let p = (went j) .0 t in (byLetter-iff count arcs (held .within) (view count set) l j) .1 (p .0, p .1, (in-view count set (p .0)) .1 (ws (p .0) (p .2), p .2), p .3, p .4),
+      λ t. let p = (went j) .0 t in (byLetter-iff count arcs (held .within) (view count set) l j) .1 (p .0, p .1, (in-view count set (p .0)) .1 (ws .0 (p .0) (p .2), p .2), p .3, p .4),
       λ t. let p = (byLetter-iff count arcs (held .within) (view count set) l j) .0 t in (went j) .1 (p .0, p .1, (in-view count set (p .0)) .0 (p .2) .1, p .3, p .4),
     )
 
-    pub stepped : (view count (setOf w acc met l) ≡ byLetter count arcs (view count set) l) × Within count (setOf w acc met l)
+    pub stepped : (view count (setOf w acc met l) ≡ byLetter count arcs (view count set) l) × Settled count arcs (setOf w acc met l)
     unfolding Went
-    stepped = (
-      view-is count (setOf w acc met l) (byLetter count arcs (view count set) l) (length-byLetter count arcs (held .within) (view count set) l) (λ j g. same j),
-      λ j t. let p = (went j) .0 t in run-below count arcs (held .within) (held .within _ (p .3)) (p .4),
-    )
+    stepped = (is, (λ j t. let p = (went j) .0 t in run-below count arcs (held .within) (held .within _ (p .3)) (p .4), rw is (byLetter-closed count arcs (held .within) (view count set) l)))
+      where
+        is : view count (setOf w acc met l) ≡ byLetter count arcs (view count set) l
+        is = view-is count (setOf w acc met l) (byLetter count arcs (view count set) l) (length-byLetter count arcs (held .within) (view count set) l) (λ j g. same j)

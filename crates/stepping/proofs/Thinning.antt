@@ -7,7 +7,7 @@ use Prim.Native.Nat.{_%_, _*_, _+_, _/_, _<_, _≤_, ℕ}
 use native.Mathlib.Omega.{arith}
 use borrow.Author.Tests.{eq-eqb, ne-eqb}
 use lib.Dec.{T, eqb}
-use Rattle.automata.proofs.ListLaws.{and-iff, eqb-iff, iff-trans, or-iff}
+use Rattle.automata.proofs.ListLaws.{and-iff, eqb-iff, or-iff}
 use Rattle.explore.specs.Map.{KeptBut, arcsAt, startsAt}
 use Rattle.explore.proofs.Frames.{but-high, but-low, but-same, but-then}
 use Rattle.memory.specs.Fields.{field}
@@ -17,7 +17,7 @@ use Rattle.sets.specs.Sets.{inSet}
 use Rattle.sets.specs.Rows.{related}
 use Rattle.sets.proofs.Laws.{row-below, row-same}
 use Rattle.stepping.specs.Stepping.{Among, setOf}
-use Rattle.stepping.proofs.LetterSets.{none-met, same-sets}
+use Rattle.stepping.proofs.LetterSets.{same-sets}
 use Rattle.stepping.proofs.Visiting.{among-split, upto}
 
 -- the rows of a block are as they were
@@ -57,35 +57,38 @@ grow v w {base} {from} {k} {arc} low is same rows p j = (
       }) s,
 )
 
--- of the arcs from `from` to before k those that add something are listed from `kept` to before `end`
-pub record Thinning (w₀ : List ℕ) (base acc from to kept k : ℕ) (w : List ℕ) (met end : ℕ) : Type 0 where
+-- of the arcs from `from` to before k those that add something to the sets, which were told by met₀ at first, are listed from `kept` to
+-- before `end`
+pub record Thinning (w₀ : List ℕ) (base acc from to kept met₀ k : ℕ) (w : List ℕ) (met end : ℕ) : Type 0 where
   pub start : from ≤ k
   pub high : k ≤ to
   pub low : kept ≤ end
   pub behind : end ≤ k
   pub frame : KeptBut acc (acc + 256) (arcsAt base) (startsAt base) w₀ w
   pub rest : (i : ℕ) → (i < kept) ⊎ (end ≤ i) → field w (arcsAt base) i ≡ field w₀ (arcsAt base) i
-  pub old : (p j : ℕ) → p < 64 → T (inSet (setOf w acc met p) j) ↔ Among w₀ base from k p j
-  pub new : (p j : ℕ) → p < 64 → T (inSet (setOf w acc met p) j) ↔ Among w base kept end p j
+  pub sets : (p j : ℕ) → p < 64 → T (inSet (setOf w acc met p) j) → T (inSet (setOf w₀ acc met₀ p) j) ⊎ Among w base kept end p j
+  pub sound : (p j : ℕ) → Among w base kept end p j → Among w₀ base from k p j
+  pub full : (p j : ℕ) → p < 64 → Among w₀ base from k p j → T (inSet (setOf w acc met p) j)
 
-pub thinning-start : (w : List ℕ) (base acc from to kept : ℕ) → kept ≤ from → from ≤ to → Thinning w base acc from to kept from w 0 kept
-thinning-start w base acc from to kept h g = record {
+pub thinning-start : (w : List ℕ) (base acc from to kept met : ℕ) → kept ≤ from → from ≤ to → Thinning w base acc from to kept met from w met kept
+thinning-start w base acc from to kept met h g = record {
   start = omega arith;
   high = g;
   low = omega arith;
   behind = h;
   frame = but-same acc (acc + 256) (arcsAt base) (startsAt base) w;
   rest = λ i s. refl;
-  old = λ p j l. nothing p j from;
-  new = λ p j l. nothing p j kept;
+  sets = λ p j l t. inl t;
+  sound = λ p j a. nothing a;
+  full = λ p j l a. nothing a;
 }
   where
-    nothing : (p j at : ℕ) → T (inSet (setOf w acc 0 p) j) ↔ Among w base at at p j
-    nothing p j at = (λ t. absurd (subst T (none-met w acc p j) t), λ a. let l = a .low in let m = a .high in absurd (omega arith))
+    nothing : {at p j : ℕ} {A : Type 0} → Among w base at at p j → A
+    nothing a = let l = a .low in let m = a .high in absurd (omega arith)
 
 -- a turn: arc k is `arc`
-module _ {w₀ w : List ℕ} {base acc from to kept k met end arc : ℕ} (apart : acc + 256 ≤ base) (h : k < to) (few : to ≤ 2048)
-    (v : Thinning w₀ base acc from to kept k w met end) (e : arc ≡ field w (arcsAt base) k) where
+module _ {w₀ w : List ℕ} {base acc from to kept met₀ k met end arc : ℕ} (apart : acc + 256 ≤ base) (h : k < to) (few : to ≤ 2048)
+    (v : Thinning w₀ base acc from to kept met₀ k w met end) (e : arc ≡ field w (arcsAt base) k) where
   rows : SameRows base w₀ w
   rows = rows-kept base acc (v .frame) apart
 
@@ -93,7 +96,7 @@ module _ {w₀ w : List ℕ} {base acc from to kept k met end arc : ℕ} (apart 
   old-more = grow w₀ w₀ (v .start) (e ∙ v .rest k (inr (v .behind))) (λ i l g. refl) (λ t j l. refl)
 
   -- it adds nothing
-  pub thinning-skip : (arc / 256 < 64 → (j : ℕ) → T (related w base (arc % 256) j) → T (inSet (setOf w acc met (arc / 256)) j)) → Thinning w₀ base acc from to kept (k + 1) w met end
+  pub thinning-skip : (arc / 256 < 64 → (j : ℕ) → T (related w base (arc % 256) j) → T (inSet (setOf w acc met (arc / 256)) j)) → Thinning w₀ base acc from to kept met₀ (k + 1) w met end
   thinning-skip dull = record {
     start = omega (arith, v .start);
     high = omega arith;
@@ -101,8 +104,9 @@ module _ {w₀ w : List ℕ} {base acc from to kept k met end arc : ℕ} (apart 
     behind = omega (arith, v .behind);
     frame = v .frame;
     rest = v .rest;
-    old = λ p j l. (λ t. (old-more p j) .1 (inl ((v .old p j l) .0 t)), λ a. ⊎-elim (λ b. (v .old p j l) .1 b) (λ b. told p j l b) ((old-more p j) .0 a));
-    new = v .new;
+    sets = v .sets;
+    sound = λ p j a. (old-more p j) .1 (inl (v .sound p j a));
+    full = λ p j l a. ⊎-elim (λ b. v .full p j l b) (λ b. told p j l b) ((old-more p j) .0 a);
   }
     where
       told : (p j : ℕ) → p < 64 → (arc / 256 ≡ p) × T (related w₀ base (arc % 256) j) → T (inSet (setOf w acc met p) j)
@@ -133,7 +137,7 @@ module _ {w₀ w : List ℕ} {base acc from to kept k met end arc : ℕ} (apart 
         both : (p j : ℕ) → T (inSet (setOf w acc met p) j || (eqb p (arc / 256) && related w base (arc % 256) j)) ↔ (T (inSet (setOf w acc met p) j) ⊎ T (eqb p (arc / 256) && related w base (arc % 256) j))
         both p j = or-iff (inSet (setOf w acc met p) j) (eqb p (arc / 256) && related w base (arc % 256) j)
 
-    pub thinning-more : Thinning w₀ base acc from to kept (k + 1) w₂ met' (end + 1)
+    pub thinning-more : Thinning w₀ base acc from to kept met₀ (k + 1) w₂ met' (end + 1)
     thinning-more = record {
       start = omega (arith, v .start);
       high = omega arith;
@@ -141,18 +145,18 @@ module _ {w₀ w : List ℕ} {base acc from to kept k met end arc : ℕ} (apart 
       behind = omega (arith, v .behind);
       frame = but-then (v .frame) changed;
       rest = λ i s. ⊎-elim (λ g. other i (λ q. absurd (omega (arith, v .low))) ∙ v .rest i (inl g)) (λ g. other i (λ q. absurd (omega arith)) ∙ v .rest i (inr (omega arith))) s;
-      old = λ p j l. (
-        λ t. (old-more p j) .1 (⊎-elim (λ s. inl ((v .old p j l) .0 s)) (λ b. inr (b .0, subst T (rows (arc % 256) j (omega arith)) (b .1))) ((gained p j l) .0 t)),
-        λ a. (gained p j l) .1 (⊎-elim (λ b. inl ((v .old p j l) .1 b)) (λ b. inr (b .0, subst T (sym (rows (arc % 256) j (omega arith))) (b .1))) ((old-more p j) .0 a)),
-      );
-      new = λ p j l. (
-        λ t. (new-more p j) .1 (⊎-elim (λ s. inl ((v .new p j l) .0 s)) (λ b. inr b) ((gained p j l) .0 t)),
-        λ a. (gained p j l) .1 (⊎-elim (λ b. inl ((v .new p j l) .1 b)) (λ b. inr b) ((new-more p j) .0 a)),
-      );
+      sets = λ p j l t. ⊎-elim (λ s. ⊎-elim (λ had. inl had) (λ a. inr ((new-more p j) .1 (inl a))) (v .sets p j l s)) (λ b. inr ((new-more p j) .1 (inr b))) ((gained p j l) .0 t);
+      sound = λ p j a. (old-more p j) .1 (⊎-elim (λ b. inl (v .sound p j b)) (λ b. inr (b .0, subst T (rows (arc % 256) j (omega arith)) (b .1))) ((new-more p j) .0 a));
+      full = λ p j l a. (gained p j l) .1 (⊎-elim (λ b. inl (v .full p j l b)) (λ b. inr (b .0, subst T (sym (rows (arc % 256) j (omega arith))) (b .1))) ((old-more p j) .0 a));
     }
 
--- THE LAW. What is listed from `kept` on tells what was listed.
-pub thinning-end : {w₀ w : List ℕ} {base acc from to kept k met end : ℕ} → to ≤ k → Thinning w₀ base acc from to kept k w met end → (p j : ℕ) → p < 64 → Among w base kept end p j ↔ Among w₀ base from to p j
-thinning-end {w₀} {base = base} {from = from} {to = to} {k = k} h v p j l =
-    let e : k ≡ to = omega (arith, v .high) in
-    (λ a. subst (λ (x : ℕ). Among w₀ base from x p j) e ((v .old p j l) .0 ((v .new p j l) .1 a)), λ a. (v .new p j l) .0 ((v .old p j l) .1 (subst (λ (x : ℕ). Among w₀ base from x p j) (sym e) a)))
+-- THE LAW. What is listed from `kept` on was listed, and tells what was, but for what the sets had at first.
+module _ {w₀ w : List ℕ} {base acc from to kept met₀ k met end : ℕ} (h : to ≤ k) (v : Thinning w₀ base acc from to kept met₀ k w met end) where
+  all : k ≡ to
+  all = omega (arith, v .high)
+
+  pub thinned-sound : (p j : ℕ) → Among w base kept end p j → Among w₀ base from to p j
+  thinned-sound p j a = subst (λ (x : ℕ). Among w₀ base from x p j) all (v .sound p j a)
+
+  pub thinned-full : (p j : ℕ) → p < 64 → Among w₀ base from to p j → T (inSet (setOf w₀ acc met₀ p) j) ⊎ Among w base kept end p j
+  thinned-full p j l a = v .sets p j l (v .full p j l (subst (λ (x : ℕ). Among w₀ base from x p j) (sym all) a))

@@ -1,7 +1,7 @@
 -- Stepping: what the words of a block stand for once its rows are closed, and the live sets of all letters that a step leaves.
 -- Where a block has its rows, its plain arcs and their starts is said in crate explore, specs/Map.antt.
 use mathlib.Core.Path.{_≡_}
-use mathlib.Core.Logic.{_↔_, _⊎_}
+use mathlib.Core.Logic.{_⊎_}
 use mathlib.Core.Bool.{cond}
 use mathlib.Core.List.{List, [], _∷_, List·Memᴰ}
 use mathlib.Core.Option.{some}
@@ -41,11 +41,30 @@ pub record Among (w : List ℕ) (base from to l j : ℕ) : Type 0 where
 abbrev pub FromList : List ℕ → ℕ → ℕ → ℕ → ℕ → ℕ → ℕ → Type 0
 FromList w base count plain s l j = Among w base (startAt w base s) (endAt w base count plain s) l j
 
--- `From` tells the plain arcs of n configurations: from s by letter l to j lead, by it, a plain arc of s with that letter and then a
--- run of empty moves
+-- a plain arc of s with letter l, and then a run of empty moves, lead to j
+abbrev pub Reached : List PlainArc → ℕ → ℕ → ℕ → Type 0
+Reached arcs s l j = (t : ℕ) × Moves arcs s (some l) t × Run (Moves arcs) t [] j
+
+-- `From` tells the plain arcs of n configurations to every set that no empty move leaves: it leads nowhere that they do not, and where
+-- they lead from s, it leads from s or from a configuration that empty moves lead to from s
 pub record Held (n letters : ℕ) (arcs : List PlainArc) (From : ℕ → ℕ → ℕ → Type 0) : Type 0 where
   pub within : (a : PlainArc) → List·Memᴰ a arcs → a .target < n
-  pub covers : (s l j : ℕ) → s < n → l < letters → From s l j ↔ ((t : ℕ) × Moves arcs s (some l) t × Run (Moves arcs) t [] j)
+  pub sound : (s l j : ℕ) → s < n → l < letters → From s l j → Reached arcs s l j
+  pub full : (s l j : ℕ) → s < n → l < letters → Reached arcs s l j → (d : ℕ) × Run (Moves arcs) s [] d × From d l j
+
+-- the plain arcs that are told by the list of w, whatever they are, are told by the list of w' too, where the rows of w hold ends of runs
+-- of empty moves alone
+abbrev pub ToldStill : (w w' : List ℕ) (base count plain left : ℕ) → Type 0
+ToldStill w w' base count plain left =
+    (letters : ℕ) (arcs : List PlainArc) → letters ≤ 64 → ((i j : ℕ) → i < count → T (related w base i j) → Run (Moves arcs) i [] j)
+    → Held count letters arcs (FromList w base count plain) → Held count letters arcs (FromList w' base count left)
+
+-- one of the first c configurations, s itself or one in its row, is listed to lead by letter l to j
+pub record Covered (w : List ℕ) (base c plain s l j : ℕ) : Type 0 where
+  pub source : ℕ
+  pub below : source < c
+  pub near : (source ≡ s) ⊎ T (related w base s source)
+  pub leads : FromList w base c plain source l j
 
 -- ---- what a step asks of the words, whatever they stand for
 -- the block and the 64 rows from acc on are there, and share no word

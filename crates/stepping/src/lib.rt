@@ -10,7 +10,7 @@ ghost use lib.ListN.{length};
 ghost use Rattle.automata.specs.Live.{PlainArc, byLetter};
 ghost use Rattle.explore.specs.Map.{blockEnd};
 ghost use Rattle.memory.specs.Frame.{Kept};
-ghost use Rattle.sets.specs.Sets.{inSet, view, Within};
+ghost use Rattle.sets.specs.Sets.{inSet, view, Settled};
 ghost use Rattle.sets.specs.Rows.{related};
 ghost use Rattle.stepping.specs.Stepping.{setOf, endAt, Among, FromList, Held, Room, Starts};
 use explore::map::BLOCK_ARCS;
@@ -81,7 +81,7 @@ pub fn end_of(w: &[u64], base: usize, count: usize, plain: usize, c: usize) -> u
     }
 }
 
-// The live set after one more letter, for each letter: in the row of that letter from `acc` on, or empty where the mask that is
+// The live set after one more letter, for each letter, of a set that no empty move leaves: in the row of that letter from `acc` on, or empty where the mask that is
 // answered lacks it. The arcs of each live configuration are visited once, whatever the number of letters.
 // Cost: one row for each arc of a live configuration.
 pub fn step(
@@ -94,8 +94,8 @@ pub fn step(
 ) -> u64
     requires { ⌜ Room (now w) base acc × Starts (now w) base count plain ⌝ }
     ensures kept { λ _. ⌜ Kept acc (acc + 256) (now (w .entry)) (now (w .exit)) ⌝ }
-    ensures set { λ r. ⌜ ((letters : ℕ) (arcs : List PlainArc) → Held count letters arcs (FromList (now (w .entry)) base count plain) → letters ≤ 64 → Within count set → (l : ℕ) → l < letters
-        → (view count (setOf (now (w .exit)) acc r l) ≡ byLetter count arcs (view count set) l) × Within count (setOf (now (w .exit)) acc r l)) ⌝ }
+    ensures set { λ r. ⌜ ((letters : ℕ) (arcs : List PlainArc) → Held count letters arcs (FromList (now (w .entry)) base count plain) → letters ≤ 64 → Settled count arcs set → (l : ℕ) → l < letters
+        → (view count (setOf (now (w .exit)) acc r l) ≡ byLetter count arcs (view count set) l) × Settled count arcs (setOf (now (w .exit)) acc r l)) ⌝ }
 {
     let mut met: u64 = 0;
     let mut c = sets::next_live(set, 0);

@@ -1,20 +1,21 @@
 // Pruning: listed arcs that add nothing to a step are dropped. What a letter leads to from a configuration is the union of the rows of
-// its arcs' targets; an arc whose target's row is inside the union of those before it tells nothing.
+// its arcs' targets; an arc whose target's row is inside the union of those before it tells nothing. Nor does one whose target's row is
+// inside what another configuration leads to by that letter, one that is live whenever this one is.
 ghost use mathlib.Core.Path.{_≡_};
-ghost use mathlib.Core.Logic.{_↔_, _⊎_};
-ghost use mathlib.Core.List.{List};
+ghost use mathlib.Core.Logic.{_⊎_};
 ghost use Prim.Native.Nat.{ℕ, _+_, _/_, _%_, _≤_, _<_};
 ghost use lib.Dec.{T};
 ghost use lib.ListN.{length};
-ghost use Rattle.automata.specs.Live.{PlainArc};
 ghost use Rattle.explore.specs.Map.{arcsAt, blockEnd, startsAt, KeptBut};
 ghost use Rattle.memory.specs.Fields.{field};
+ghost use Rattle.memory.specs.Frame.{Kept};
 ghost use Rattle.sets.specs.Sets.{inSet};
 ghost use Rattle.sets.specs.Rows.{related};
-ghost use Rattle.stepping.specs.Stepping.{setOf, Among, FromList, Held, Room, Starts};
+ghost use Rattle.stepping.specs.Stepping.{setOf, Among, Covered, Room, Starts, ToldStill};
 use super::end_of;
 use super::into;
 use super::set_of;
+use super::visit;
 use explore::map::BLOCK_ARCS;
 use explore::map::BLOCK_STARTS;
 
@@ -35,23 +36,49 @@ fn adds(w: &[u64], base: usize, acc: usize, met: u64, arc: usize) -> bool
     }
 }
 
-// Of the listed arcs from `from` to before `to`, those of one configuration, the ones that add something are listed from `kept` on.
-// Answers where they end.
+// The sets that the first configuration in the row of c is listed to lead to, where it stands before c: it is live whenever c is, so c
+// need not be listed to lead there too. The first c configurations are pruned already, and listed before `kept`.
+// Cost: one row for each arc of that configuration.
+fn ahead(w: &mut [u64], base: usize, acc: usize, c: usize, kept: usize) -> u64
+    requires { ⌜ (c < 256) × (Room (now w) base acc × Starts (now w) base c kept) ⌝ }
+    ensures kept { λ _. ⌜ Kept acc (acc + 256) (now (w .entry)) (now (w .exit)) ⌝ }
+    ensures covered { λ r. ⌜ ((p j : ℕ) → p < 64 → T (inSet (setOf (now (w .exit)) acc r p) j) → Covered (now (w .exit)) base c kept c p j) ⌝ }
+{
+    let d = sets::next_live(sets::rows::load(w, base, c), 0);
+    if d < c {
+        let from = memory::get16(w, base + BLOCK_STARTS, d);
+        let to = end_of(w, base, c, kept, d);
+        return visit(w, base, acc, from, to, 0);
+    }
+    0
+}
+
+// Of the listed arcs from `from` to before `to`, those of one configuration, the ones that add something to the sets that `met` tells are
+// listed from `kept` on. Answers where they end.
 // Cost: two rows for each arc.
-fn prune_one(w: &mut [u64], base: usize, acc: usize, from: usize, to: usize, kept: usize) -> usize
+fn prune_one(
+    w: &mut [u64],
+    base: usize,
+    acc: usize,
+    from: usize,
+    to: usize,
+    kept: usize,
+    met: u64,
+) -> usize
     requires { ⌜ (acc + 256 ≤ base) × ((blockEnd base ≤ length (now w)) × ((kept ≤ from) × ((from ≤ to) × (to ≤ 2048)))) ⌝ }
     ensures kept { λ _. ⌜ KeptBut acc (acc + 256) (arcsAt base) (startsAt base) (now (w .entry)) (now (w .exit)) ⌝ }
     ensures place { λ r. ⌜ (kept ≤ r) × (r ≤ to) ⌝ }
     ensures rest { λ r. ⌜ ((i : ℕ) → (i < kept) ⊎ (r ≤ i) → field (now (w .exit)) (arcsAt base) i ≡ field (now (w .entry)) (arcsAt base) i) ⌝ }
-    ensures told { λ r. ⌜ ((p j : ℕ) → p < 64 → Among (now (w .exit)) base kept r p j ↔ Among (now (w .entry)) base from to p j) ⌝ }
+    ensures sound { λ r. ⌜ ((p j : ℕ) → Among (now (w .exit)) base kept r p j → Among (now (w .entry)) base from to p j) ⌝ }
+    ensures full { λ r. ⌜ ((p j : ℕ) → p < 64 → Among (now (w .entry)) base from to p j → T (inSet (setOf (now (w .entry)) acc met p) j) ⊎ Among (now (w .exit)) base kept r p j) ⌝ }
 {
-    let mut met: u64 = 0;
+    let mut told = met;
     let mut end = kept;
     let mut k = from;
     while k < to {
         let arc = memory::get16(w, base + BLOCK_ARCS, k);
-        if adds(w, base, acc, met, arc) {
-            met = into(w, base, acc, arc / 256, arc % 256, met);
+        if adds(w, base, acc, told, arc) {
+            told = into(w, base, acc, arc / 256, arc % 256, told);
             memory::put16(w, base + BLOCK_ARCS, end, arc);
             end += 1;
         }
@@ -63,12 +90,12 @@ fn prune_one(w: &mut [u64], base: usize, acc: usize, from: usize, to: usize, kep
 // Drops the listed arcs that add nothing, of each configuration. Answers how many are left. They are written down in place: where one
 // is written is never behind where one is read. Where there are fewer than two for each configuration, all stay: the test would take
 // longer than what it saves.
-// Cost: two rows for each arc.
+// Cost: two rows for each arc, and one for each of another configuration.
 pub fn prune(w: &mut [u64], base: usize, acc: usize, count: usize, plain: usize) -> usize
     requires { ⌜ (acc + 256 ≤ base) × ((blockEnd base ≤ length (now w)) × Starts (now w) base count plain) ⌝ }
     ensures kept { λ _. ⌜ KeptBut acc (acc + 256) (arcsAt base) (blockEnd base) (now (w .entry)) (now (w .exit)) ⌝ }
     ensures starts { λ r. ⌜ Starts (now (w .exit)) base count r × (r ≤ plain) ⌝ }
-    ensures held { λ r. ⌜ ((letters : ℕ) (arcs : List PlainArc) → letters ≤ 64 → Held count letters arcs (FromList (now (w .entry)) base count plain) → Held count letters arcs (FromList (now (w .exit)) base count r)) ⌝ }
+    ensures told { λ r. ⌜ ToldStill (now (w .entry)) (now (w .exit)) base count plain r ⌝ }
 {
     if plain < 2 * count {
         return plain;
@@ -76,9 +103,10 @@ pub fn prune(w: &mut [u64], base: usize, acc: usize, count: usize, plain: usize)
     let mut kept: usize = 0;
     let mut c: usize = 0;
     while c < count {
+        let met = ahead(w, base, acc, c, kept);
         let from = memory::get16(w, base + BLOCK_STARTS, c);
         let to = end_of(w, base, count, plain, c);
-        let end = prune_one(w, base, acc, from, to, kept);
+        let end = prune_one(w, base, acc, from, to, kept, met);
         memory::put16(w, base + BLOCK_STARTS, c, kept);
         kept = end;
         c += 1;

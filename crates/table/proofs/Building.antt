@@ -18,7 +18,7 @@ use Rattle.automata.specs.Lists.{countFrom}
 use Rattle.automata.specs.Live.{Moves, PlainArc, epsilonClosure, table}
 use Rattle.automata.specs.Unfolding.{configurations, plainAll, plainArcs}
 use Rattle.automata.proofs.ListLaws.{at-map, at-mem, getElem?-lt, getElem?-some, iff-trans, mem-at}
-use Rattle.automata.proofs.LiveLaws.{epsilonClosure-iff, in-table, length-rounds, length-table, run-below}
+use Rattle.automata.proofs.LiveLaws.{epsilonClosure-closed, epsilonClosure-iff, in-table, length-rounds, length-table, run-below}
 use Rattle.automata.proofs.UnfoldingLaws.{first-configuration, within}
 use Rattle.explore.specs.Explores.{Block, Explores, exploredOf, startOf}
 use Rattle.explore.specs.Map.{arcsAt, configs, mapEnd, startsAt}
@@ -29,9 +29,10 @@ use Rattle.format.specs.Encoding.{letterByte}
 use Rattle.memory.specs.Fields.{field}
 use Rattle.memory.specs.Frame.{Kept}
 use Rattle.memory.proofs.Laws.{field-same}
-use Rattle.sets.specs.Sets.{Within, view}
+use Rattle.sets.specs.Sets.{Settled, view}
 use Rattle.sets.specs.Rows.{Link, Closure, here, next, related, row}
 use Rattle.sets.proofs.Laws.{view-is}
+use Rattle.stepping.proofs.BlockFrame.{held-each}
 use Rattle.stepping.specs.Stepping.{Among, endAt, startAt}
 use Rattle.table.specs.Words.{Built, Stored}
 use Rattle.table.proofs.PlainPlaces.{before-le, before-rises, source-at}
@@ -135,7 +136,7 @@ module _ (x : Automaton) (L : ℕ) (fits : length (configurations x L) ≤ L) {w
     many = many;
     ended = rw many fits;
     rows = rows-run;
-    held = λ h. record { within = inside; covers = covers short h };
+    held = λ h. held-each inside (covers short h);
     starts = λ h. record { few = few; less = h; each = λ c l. omega (arith, start-is h c l, before-le x (configurations x L) 0 (configurations x L) c); rises = λ c l. omega (arith, start-is h c l, end-is h c l, before-rises x (configurations x L) 0 (configurations x L) c) };
   }
 
@@ -176,17 +177,9 @@ explored-stored x L {w} {w'} {k = k} found few above kept = part-same w w' confi
 -- ---- the start of a walk over words
 -- Row 0 of a built block is the live set of the empty word.
 pub row-start : {x : Automaton} {L : ℕ} {w : List ℕ} {base k p : ℕ} → Built x L w base k p
-    → (view k (row w base 0) ≡ epsilonClosure k (plainArcs x L) (table k (eqb 0))) × Within k (row w base 0)
+    → (view k (row w base 0) ≡ epsilonClosure k (plainArcs x L) (table k (eqb 0))) × Settled k (plainArcs x L) (row w base 0)
 unfolding related epsilonClosure
-row-start {x} {L} {w} {base} {k} b = (
-  view-is k (row w base 0) (epsilonClosure k arcs first) (length-rounds k arcs inside k first (length-table k (eqb 0))) (λ j h. (
-    λ t. (epsilonClosure-iff k arcs inside first j (length-table k (eqb 0))) .1 (0, (in-table k (eqb 0) 0) .1 (pos, tt), (b .rows 0 j pos) .0 t),
-    λ t. let q = (epsilonClosure-iff k arcs inside first j (length-table k (eqb 0))) .0 t in
-        let e : 0 ≡ q .0 = eqb→eq 0 (q .0) (((in-table k (eqb 0) (q .0)) .0 (q .1)) .1) in
-        (b .rows 0 j pos) .1 (rw (← e) at (q .2)),
-  )),
-  λ j t. run-below k arcs inside pos ((b .rows 0 j pos) .0 t),
-)
+row-start {x} {L} {w} {base} {k} b = (is, (λ j t. run-below k arcs inside pos ((b .rows 0 j pos) .0 t), rw is (epsilonClosure-closed k arcs inside first (length-table k (eqb 0)))))
   where
     fits : length (configurations x L) ≤ L
     fits = rw (← b .many) (b .ended)
@@ -202,3 +195,11 @@ row-start {x} {L} {w} {base} {k} b = (
 
     pos : 0 < k
     pos = rw (b .many) (getElem?-lt (configurations x L) 0 (first-configuration x L fits))
+
+    is : view k (row w base 0) ≡ epsilonClosure k (plainArcs x L) (table k (eqb 0))
+    is = view-is k (row w base 0) (epsilonClosure k arcs first) (length-rounds k arcs inside k first (length-table k (eqb 0))) (λ j h. (
+      λ t. (epsilonClosure-iff k arcs inside first j (length-table k (eqb 0))) .1 (0, (in-table k (eqb 0) 0) .1 (pos, tt), (b .rows 0 j pos) .0 t),
+      λ t. let q = (epsilonClosure-iff k arcs inside first j (length-table k (eqb 0))) .0 t in
+          let e : 0 ≡ q .0 = eqb→eq 0 (q .0) (((in-table k (eqb 0) (q .0)) .0 (q .1)) .1) in
+          (b .rows 0 j pos) .1 (rw (← e) at (q .2)),
+    ))

@@ -4,9 +4,8 @@ use mathlib.Core.List.{List}
 use Prim.Native.Nat.{_+_, _≤_, ℕ}
 use native.Mathlib.Omega.{arith}
 use Rattle.automata.specs.Automaton.{Automaton, letters}
-use Rattle.automata.specs.Live.{PlainArc}
 use Rattle.explore.specs.Map.{KeptBut, arcsAt, blockEnd}
-use Rattle.stepping.specs.Stepping.{FromList, Held, Starts}
+use Rattle.stepping.specs.Stepping.{Starts, ToldStill}
 use Rattle.stepping.proofs.BlockFrame.{SameBlock, held-same, list-kept, related-kept, starts-kept}
 use Rattle.stepping.proofs.Thinning.{rows-kept}
 use Rattle.table.specs.Words.{Built}
@@ -24,11 +23,11 @@ built-kept b few built = record {
 -- its listed arcs were pruned
 pub built-pruned : {x : Automaton} {L : ℕ} {w w' : List ℕ} {base acc k p r : ℕ} → Built x L w base k p → p ≤ 2048 → k ≤ 256 → letters x ≤ 64 → acc + 256 ≤ base
     → KeptBut acc (acc + 256) (arcsAt base) (blockEnd base) w w' → Starts w' base k r
-    → ((letters : ℕ) (arcs : List PlainArc) → letters ≤ 64 → Held k letters arcs (FromList w base k p) → Held k letters arcs (FromList w' base k r)) → Built x L w' base k r
+    → ToldStill w w' base k p r → Built x L w' base k r
 built-pruned {x} {base = base} {acc = acc} b listed few short apart frame starts held = record {
   many = b .many;
   ended = b .ended;
   rows = λ i j h. rw (rows-kept base acc frame apart i j (omega arith)) (b .rows i j h);
-  held = λ h. held (letters x) _ short (b .held listed);
+  held = λ h. held (letters x) _ short (λ i j g t. (b .rows i j g) .0 t) (b .held listed);
   starts = λ h. starts;
 }

@@ -26,7 +26,7 @@ use Rattle.memory.specs.Frame.{Kept}
 use Rattle.table.specs.FileSteps.{Findable, FromFile, Outgoing, Steppable}
 use Rattle.stepping.specs.Stepping.{Held}
 use Rattle.table.specs.Words.{Built, Stored}
-use Rattle.stepping.proofs.BlockFrame.{block-kept, held-same, list-kept}
+use Rattle.stepping.proofs.BlockFrame.{block-kept, held-each, held-same, list-kept}
 use Rattle.table.proofs.FileVisits.{from-kept, map-kept}
 use Rattle.table.proofs.FinalLaws.{word-in}
 
@@ -106,7 +106,7 @@ module _ (file : List ℕ) (c : Counts) {L : ℕ} {w : List ℕ} {base k p : ℕ
         }
 
   pub file-held : Held k (letters (decoded c file)) (plainArcs (decoded c file) L) (FromFile file c w base k)
-  file-held = record { within = λ a m. rw (b .many) (within (decoded c file) L fits a m); covers = λ s l j h g. (onward s l j h, back s l j h) }
+  file-held = held-each (λ a m. rw (b .many) (within (decoded c file) L fits a m)) (λ s l j h g. (onward s l j h, back s l j h))
 
 -- the plain arcs of a built automaton are told, and are so still where only the sets of letters have changed
 pub built-outgoing : (file : List ℕ) (c : Counts) {L : ℕ} {w w' : List ℕ} {base acc k p : ℕ} → mapEnd ≤ acc → Steppable file c w base acc k p → Kept acc (acc + 256) w w' → Built (decoded c file) L w base k p → Stored (decoded c file) L w k

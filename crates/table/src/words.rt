@@ -3,9 +3,10 @@ ghost use mathlib.Core.Path.{_≡_};
 ghost use mathlib.Core.List.{List};
 ghost use Prim.Native.Nat.{ℕ, _+_, _≤_, _<_};
 ghost use Rattle.automata.specs.Live.{PlainArc, byLetter};
+ghost use Rattle.automata.specs.Unfolding.{plainArcs};
 ghost use Rattle.format.specs.Decoding.{decoded};
 ghost use Rattle.memory.specs.Frame.{Kept};
-ghost use Rattle.sets.specs.Sets.{view, Within};
+ghost use Rattle.sets.specs.Sets.{view, Settled, Within};
 ghost use Rattle.table.specs.FileSteps.{Outgoing, Steppable};
 ghost use Rattle.table.specs.Words.{letterSets, Built, Stored, Ready, liveBytes};
 ghost use Rattle.table.specs.Membership.{judged};
@@ -35,8 +36,8 @@ fn step_letter(
 ) -> [u64; 4]
     requires { ⌜ (l < 64) × Steppable (now file) c (now w) base letterSets count plain ⌝ }
     ensures kept { λ _. ⌜ Kept letterSets (letterSets + 256) (now (w .entry)) (now (w .exit)) ⌝ }
-    ensures set { λ r. ⌜ ((letters : ℕ) (arcs : List PlainArc) → Outgoing (now (file .entry)) c (now (w .entry)) base count plain letters arcs → letters ≤ 64 → Within count set → l < letters
-        → (view count r ≡ byLetter count arcs (view count set) l) × Within count r) ⌝ }
+    ensures set { λ r. ⌜ ((letters : ℕ) (arcs : List PlainArc) → Outgoing (now (file .entry)) c (now (w .entry)) base count plain letters arcs → letters ≤ 64 → Settled count arcs set → l < letters
+        → (view count r ≡ byLetter count arcs (view count set) l) × Settled count arcs r) ⌝ }
 {
     if plain <= 2048 {
         let met = step(w, base, LETTER_SETS, count, plain, set);
@@ -60,7 +61,7 @@ pub fn walk_word(
 ) -> [u64; 4]
     requires { ⌜ (c .letters ≤ 64) × Steppable (now file) c (now w) base letterSets count plain ⌝ }
     ensures kept { λ _. ⌜ Kept letterSets (letterSets + 256) (now (w .entry)) (now (w .exit)) ⌝ }
-    ensures set { λ r. ⌜ ((L : ℕ) → Built (decoded c (now (file .entry))) L (now (w .entry)) base count plain → Stored (decoded c (now (file .entry))) L (now (w .entry)) count → Within count from
+    ensures set { λ r. ⌜ ((L : ℕ) → Built (decoded c (now (file .entry))) L (now (w .entry)) base count plain → Stored (decoded c (now (file .entry))) L (now (w .entry)) count → Settled count (plainArcs (decoded c (now (file .entry))) L) from
         → (view count r ≡ liveBytes (decoded c (now (file .entry))) L count (view count from) (now (word .entry))) × Within count r) ⌝ }
 {
     let mut set = from;

@@ -6,15 +6,15 @@ use Prim.Native.Nat.{_-_}
 use native.Mathlib.Omega.{arith}
 use lib.Dec.{T}
 use Rattle.stepping.specs.Stepping.{Room}
-use Rattle.stepping.proofs.Thinning.{Thinning, thinning-end, thinning-more, thinning-skip, thinning-start}
+use Rattle.stepping.proofs.Thinning.{Thinning, thinned-full, thinned-sound, thinning-more, thinning-skip, thinning-start}
 use Rattle.stepping.proofs.pruning.prune_one.Statement.{statement}
 use Rattle.stepping.proofs.pruning.prune_one.Tie as tie
 
 abbrev Inv-loop : tie.InvT-loop
-Inv-loop w₀ base acc from to kept met₀ end₀ k₀ w met end k = Thinning w₀ base acc from to kept k w met end
+Inv-loop w₀ base acc from to kept met told₀ end₀ k₀ w told end k = Thinning w₀ base acc from to kept met k w told end
 
 abbrev μ-loop : tie.MeasureT-loop
-μ-loop w₀ base acc from to kept met₀ end₀ k₀ w met end k = to - k
+μ-loop w₀ base acc from to kept met told₀ end₀ k₀ w told end k = to - k
 
 room-at : (c : tie.After-get16-arg Inv-loop μ-loop) → Room (c .before .before .loop .w) (c .before .before .before .before .args .base) (c .before .before .before .before .args .acc)
 room-at c =
@@ -23,7 +23,7 @@ room-at c =
     record { block = omega (arith, p .1 .0, l .loop .inv .frame .long); rows = omega (arith, p .0, p .1 .0, l .loop .inv .frame .long); apart = inl (p .0) }
 
 loop-holds : tie.Need-loop-holds Inv-loop μ-loop
-loop-holds c = let s = c .before in thinning-start _ _ _ _ _ _ (s .pre .1 .1 .0) (s .pre .1 .1 .1 .0)
+loop-holds c = let s = c .before in thinning-start _ _ _ _ _ _ _ (s .pre .1 .1 .0) (s .pre .1 .1 .1 .0)
 
 add-get16 : tie.Need-add-get16 Inv-loop μ-loop
 add-get16 c = omega (arith, room-at c)
@@ -79,7 +79,7 @@ same-length : tie.Need-same-length Inv-loop μ-loop
 same-length c = c .before .loop .inv .frame .long
 
 returns : tie.Need-returns Inv-loop μ-loop
-returns c = let v = c .before .loop .inv in (v .frame, ((v .low, omega (arith, v .behind, v .high)), (v .rest, thinning-end (c .loop-test .left) v)))
+returns c = let v = c .before .loop .inv in (v .frame, ((v .low, omega (arith, v .behind, v .high)), (v .rest, (thinned-sound (c .loop-test .left) v, thinned-full (c .loop-test .left) v))))
 
 pub prune-one-spec : {M : Type 1} → statement M
 prune-one-spec =
