@@ -48,67 +48,92 @@ pub struct Automaton {
 
 // ---- the file
 
+/// A fault of a file: its number, and the place where reading meets it. A part that the file ends inside is met where it begins.
+#[derive(Clone, Copy, Debug, PartialEq, Eq)]
+pub struct Fault {
+    pub number: u8,
+    pub place: usize,
+}
+
+fn fault<T>(number: u8, place: usize) -> Result<T, Fault> {
+    Err(Fault { number, place })
+}
+
 /// The automaton in a file, or the number of its first fault.
 pub fn read(file: &[u8]) -> Result<Automaton, u8> {
-    let mut rest = file;
-    let mut want = |n: usize| -> Result<&[u8], u8> {
-        if rest.len() < n {
-            return Err(1);
+    read_placed(file).map_err(|f| f.number)
+}
+
+/// The automaton in a file, or its first fault.
+pub fn read_placed(file: &[u8]) -> Result<Automaton, Fault> {
+    let mut at = 0;
+    let mut want = |n: usize| -> Result<(usize, &[u8]), Fault> {
+        let begin = at;
+        if file.len() - begin < n {
+            return fault(1, begin);
         }
-        let (part, behind) = rest.split_at(n);
-        rest = behind;
-        Ok(part)
+        at += n;
+        Ok((begin, &file[begin..at]))
     };
-    let header = want(12)?;
+    let (_, header) = want(12)?;
     if &header[0..3] != b"MLB" {
-        return Err(2);
+        return fault(2, 0);
     }
     if header[3] != 1 || header[4] != 0 {
-        return Err(3);
+        return fault(3, 3);
     }
     let a = header[5] as usize;
     let s = header[6] as usize + 256 * header[7] as usize;
     let n = header[8] as usize;
     let g = header[9] as usize;
     let m = header[10] as usize + 256 * header[11] as usize;
-    let within = a <= 64
-        && (1..=256).contains(&s)
-        && (1..=8).contains(&n)
-        && (1..=16).contains(&g)
-        && m <= 2048;
-    if !within {
-        return Err(4);
+    let ranges = [
+        (a <= 64, 5),
+        ((1..=256).contains(&s), 6),
+        ((1..=8).contains(&n), 8),
+        ((1..=16).contains(&g), 9),
+        (m <= 2048, 10),
+    ];
+    if let Some((_, place)) = ranges.iter().find(|(within, _)| !within) {
+        return fault(4, *place);
     }
-    let letters = want(a)?.to_vec();
-    if letters.windows(2).any(|w| w[0] >= w[1]) {
-        return Err(5);
+    let (begin, part) = want(a)?;
+    let letters = part.to_vec();
+    if let Some(i) = letters.windows(2).position(|w| w[0] >= w[1]) {
+        return fault(5, begin + i + 1);
     }
-    let flags = want(s)?.to_vec();
-    if flags.iter().any(|f| *f > 1) {
-        return Err(6);
+    let (begin, part) = want(s)?;
+    let flags = part.to_vec();
+    if let Some(i) = flags.iter().position(|f| *f > 1) {
+        return fault(6, begin + i);
     }
     let mut arcs = Vec::new();
     for _ in 0..m {
-        let four = want(4)?.to_vec();
+        let (begin, four) = want(4)?;
         let (from, letter, to, p) = (
             four[0] as usize,
             four[1],
             four[2] as usize,
             four[3] as usize,
         );
-        if from >= s || (letter != 0xFF && letter as usize >= a) || to >= s || !(1..=8).contains(&p)
-        {
-            return Err(7);
+        let in_range = [
+            from < s,
+            letter == 0xFF || (letter as usize) < a,
+            to < s,
+            (1..=8).contains(&p),
+        ];
+        if let Some(i) = in_range.iter().position(|within| !within) {
+            return fault(7, begin + i);
         }
         let mut operations = Vec::new();
-        let bytes = want(2 * p)?.to_vec();
-        for two in bytes.chunks(2) {
+        let (begin, bytes) = want(2 * p)?;
+        for (i, two) in bytes.chunks(2).enumerate() {
             let (kind, register, symbol) = (two[0] >> 4, (two[0] & 15) as usize, two[1]);
             if kind > 1 || register >= n || symbol as usize >= g {
-                return Err(8);
+                return fault(8, begin + 2 * i);
             }
             if register == 0 && (kind != 0 || symbol != 0) {
-                return Err(8);
+                return fault(8, begin + 2 * i);
             }
             operations.push(Operation {
                 writes: kind == 1,
@@ -128,8 +153,8 @@ pub fn read(file: &[u8]) -> Result<Automaton, u8> {
             operations,
         });
     }
-    if !rest.is_empty() {
-        return Err(9);
+    if at < file.len() {
+        return fault(9, at);
     }
     let finals = flags.iter().map(|f| *f == 1).collect();
     Ok(Automaton {
