@@ -69,7 +69,7 @@ module _ {w w' : List ℕ} {base : ℕ} (b : SameBlock base w w') where
   room-kept r = record { block = omega (arith, r .block, b .long); rows = omega (arith, r .rows, b .long); apart = r .apart }
 
   pub starts-kept : {count plain : ℕ} → Starts w base count plain → Starts w' base count plain
-  starts-kept {count} {plain} s = record { few = s .few; less = s .less; each = λ c h. omega (arith, start-kept c (omega (arith, s .few)), s .each c h); rises = λ c h. omega (arith, start-kept c (omega (arith, s .few)), end-kept count plain c (s .few), s .rises c h) }
+  starts-kept {count} {plain} s = record { few = s .few; less = s .less; zero = λ h. start-kept 0 (omega arith) ∙ s .zero h; each = λ c h. omega (arith, start-kept c (omega (arith, s .few)), s .each c h); rises = λ c h. omega (arith, start-kept c (omega (arith, s .few)), end-kept count plain c (s .few), s .rises c h) }
 
   pub among-kept : (from to p j : ℕ) → to ≤ 2048 → Among w' base from to p j ↔ Among w base from to p j
   among-kept from to p j h = (

@@ -61,33 +61,39 @@ module _ (From : ℕ → ℕ → ℕ → Type 0) where
       sets = λ p j l. (λ t. on p j l ((f p j l) .0 t), λ o. (f p j l) .1 (back p j l o (ℕ-discrete (o .source) c) (decLt (o .source) c)));
     }
 
-  -- THE LAW. The sets that a step leaves are those behind one more letter
-  module _ {w₀ w : List ℕ} {acc count : ℕ} {set : List ℕ} {c met : ℕ} (h : count ≤ c) (k : Stepping w₀ acc set c w met)
-      (letters : ℕ) (arcs : List PlainArc) (held : Held count letters arcs From) (few : letters ≤ 64) (ws : Settled count arcs set) (l : ℕ) (hl : l < letters) where
+  -- THE LAW. Where the members below c lead by a letter is the live set behind it
+  module _ {count c : ℕ} {set : List ℕ} (out : List ℕ) (h : count ≤ c) (letters : ℕ) (arcs : List PlainArc) (held : Held count letters arcs From) (ws : Settled count arcs set) (l : ℕ) (hl : l < letters)
+      (onward : (j : ℕ) → T (inSet out j) ↔ Onward set c l j) where
     Went : ℕ → Type 0
     Went j = (s t : ℕ) × T (inSet set s) × Moves arcs s (some l) t × Run (Moves arcs) t [] j
 
-    went : (j : ℕ) → T (inSet (setOf w acc met l) j) ↔ Went j
+    went : (j : ℕ) → T (inSet out j) ↔ Went j
     unfolding Went
     went j = (
-      λ t. let o = (k .sets l j (omega arith)) .0 t in
+      λ t. let o = (onward j) .0 t in
           let m = held .sound (o .source) l j (ws .0 (o .source) (o .lives)) hl (o .leads) in
           (o .source, m .0, o .lives, m .1, m .2),
       λ p. let f = held .full (p .0) l j (ws .0 (p .0) (p .2)) hl (p .1, p .3, p .4) in
           let q = (in-view count set (f .0)) .0 (closed-run (view count set) (ws .1) ((in-view count set (p .0)) .1 (ws .0 (p .0) (p .2), p .2)) (f .1)) in
-          (k .sets l j (omega arith)) .1 (record { source = f .0; lives = q .1; below = omega (arith, q .0); leads = f .2 }),
+          (onward j) .1 (record { source = f .0; lives = q .1; below = omega (arith, q .0); leads = f .2 }),
     )
 
-    same : (j : ℕ) → T (inSet (setOf w acc met l) j) ↔ T (in? (byLetter count arcs (view count set) l) j)
+    same : (j : ℕ) → T (inSet out j) ↔ T (in? (byLetter count arcs (view count set) l) j)
     unfolding Went
     same j = (
       λ t. let p = (went j) .0 t in (byLetter-iff count arcs (held .within) (view count set) l j) .1 (p .0, p .1, (in-view count set (p .0)) .1 (ws .0 (p .0) (p .2), p .2), p .3, p .4),
       λ t. let p = (byLetter-iff count arcs (held .within) (view count set) l j) .0 t in (went j) .1 (p .0, p .1, (in-view count set (p .0)) .0 (p .2) .1, p .3, p .4),
     )
 
-    pub stepped : (view count (setOf w acc met l) ≡ byLetter count arcs (view count set) l) × Settled count arcs (setOf w acc met l)
+    pub led : (view count out ≡ byLetter count arcs (view count set) l) × Settled count arcs out
     unfolding Went
-    stepped = (is, (λ j t. let p = (went j) .0 t in run-below count arcs (held .within) (held .within _ (p .3)) (p .4), rw is (byLetter-closed count arcs (held .within) (view count set) l)))
+    led = (is, (λ j t. let p = (went j) .0 t in run-below count arcs (held .within) (held .within _ (p .3)) (p .4), rw is (byLetter-closed count arcs (held .within) (view count set) l)))
       where
-        is : view count (setOf w acc met l) ≡ byLetter count arcs (view count set) l
-        is = view-is count (setOf w acc met l) (byLetter count arcs (view count set) l) (length-byLetter count arcs (held .within) (view count set) l) (λ j g. same j)
+        is : view count out ≡ byLetter count arcs (view count set) l
+        is = view-is count out (byLetter count arcs (view count set) l) (length-byLetter count arcs (held .within) (view count set) l) (λ j g. same j)
+
+  -- the sets that a step leaves are those behind one more letter
+  pub stepped : {w₀ w : List ℕ} {acc count : ℕ} {set : List ℕ} {c met : ℕ} → count ≤ c → Stepping w₀ acc set c w met
+      → (letters : ℕ) (arcs : List PlainArc) → Held count letters arcs From → letters ≤ 64 → Settled count arcs set → (l : ℕ) → l < letters
+      → (view count (setOf w acc met l) ≡ byLetter count arcs (view count set) l) × Settled count arcs (setOf w acc met l)
+  stepped {w = w} {acc = acc} {met = met} h k letters arcs held few ws l hl = led (setOf w acc met l) h letters arcs held ws l hl (λ j. k .sets l j (omega arith))

@@ -44,7 +44,7 @@ pruning-start w base acc count plain = record {
   behind = λ h. omega arith;
   rest = λ i h g. refl;
   later = λ i h g. refl;
-  starts = record { few = omega arith; less = omega arith; each = λ c h. absurd (omega arith); rises = λ c h. absurd (omega arith) };
+  starts = record { few = omega arith; less = omega arith; zero = λ h. absurd (omega arith); each = λ c h. absurd (omega arith); rises = λ c h. absurd (omega arith) };
   sound = λ s l j h a. absurd (omega arith);
   full = λ s l j h g a. absurd (omega arith);
 }
@@ -149,10 +149,15 @@ module _ {w₀ w w₁ w₂ : List ℕ} {base acc count plain c kept from to end 
   starts₂ = record {
     few = omega (arith, s .few);
     less = omega (arith, to-few, s .less);
+    zero = λ g. zero (ℕ-discrete 0 c);
     each = λ i g. each i g (ℕ-discrete i c);
     rises = λ i g. rises i g (ℕ-discrete i c);
   }
     where
+      zero : Dec (0 ≡ c) → startAt w₂ base 0 ≡ 0
+      zero (yes e) = let k : startAt w₀ base c ≡ 0 = rw (← e) (s .zero (omega arith)) in rw e (omega (arith, start-here, v .behind h, k))
+      zero (no n) = start-other 0 n ∙ v .starts .zero (omega arith)
+
       each : (i : ℕ) → i < c + 1 → Dec (i ≡ c) → startAt w₂ base i ≤ end
       each i g (yes e) = rw e (omega (arith, start-here))
       each i g (no n) = omega (arith, start-other i n, v .starts .each i (omega arith))

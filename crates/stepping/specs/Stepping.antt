@@ -73,9 +73,10 @@ pub record Room (w : List ℕ) (base acc : ℕ) : Type 0 where
   pub rows : acc + 256 ≤ length w
   pub apart : (acc + 256 ≤ base) ⊎ (blockEnd base ≤ acc)
 
--- the starts and the end of the listed arcs are places of the list, and they rise
+-- the starts and the end of the listed arcs are places of the list, from 0 on, and they rise
 pub record Starts (w : List ℕ) (base count plain : ℕ) : Type 0 where
   pub few : count ≤ 256
   pub less : plain ≤ 2048
+  pub zero : 0 < count → startAt w base 0 ≡ 0
   pub each : (c : ℕ) → c < count → startAt w base c ≤ plain
   pub rises : (c : ℕ) → c < count → startAt w base c ≤ endAt w base count plain c

@@ -137,7 +137,7 @@ module _ (x : Automaton) (L : ℕ) (fits : length (configurations x L) ≤ L) {w
     ended = rw many fits;
     rows = rows-run;
     held = λ h. held-each inside (covers short h);
-    starts = λ h. record { few = few; less = h; each = λ c l. omega (arith, start-is h c l, before-le x (configurations x L) 0 (configurations x L) c); rises = λ c l. omega (arith, start-is h c l, end-is h c l, before-rises x (configurations x L) 0 (configurations x L) c) };
+    starts = λ h. record { few = few; less = h; zero = λ l. start-is h 0 l; each = λ c l. omega (arith, start-is h c l, before-le x (configurations x L) 0 (configurations x L) c); rises = λ c l. omega (arith, start-is h c l, end-is h c l, before-rises x (configurations x L) 0 (configurations x L) c) };
   }
 
 -- ---- from the answer of exploring

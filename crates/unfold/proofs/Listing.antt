@@ -105,6 +105,7 @@ module _ (x : Automaton) (formed : WellFormed x) (few-letters : letters x ≤ 64
   starts-listed = record {
     few = rw many few;
     less = fits;
+    zero = λ h. start-is 0 h;
     each = λ s h. rw (start-is s h) (omega (arith, plain, before-le x (configurations x 256) 0 (configurations x 256) s));
     rises = λ s h. rw (start-is s h, end-is s h) (before-rises x (configurations x 256) 0 (configurations x 256) s);
   }

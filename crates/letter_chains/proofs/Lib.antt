@@ -1,0 +1,3 @@
+pub mod Noting
+pub mod Linking
+pub mod Following

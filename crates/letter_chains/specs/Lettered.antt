@@ -1,0 +1,50 @@
+-- Lettered: the listed plain arcs of a block found by their letter. Each has its source, and is in the chain of its letter's byte.
+use mathlib.Core.Path.{_≡_}
+use mathlib.Core.List.{List}
+use Prim.Native.Nat.{ℕ, _/_, _≤_, _<_}
+use lib.ListN.{length}
+use Rattle.explore.specs.Map.{arcsAt, blockEnd}
+use Rattle.memory.specs.Chains.{Chain}
+use Rattle.memory.specs.Fields.{field}
+use Rattle.stepping.specs.Stepping.{endAt, startAt}
+
+-- the source of each listed arc, 2,048 fields; the chains of the arcs by their letter's byte: 2,048 next fields and 256 heads. All of it
+-- lies below the tables of the building
+abbrev pub sources : ℕ
+sources = 0
+
+abbrev pub letterNexts : ℕ
+letterNexts = 512
+
+abbrev pub letterHeads : ℕ
+letterHeads = 1024
+
+abbrev pub letteredEnd : ℕ
+letteredEnd = 1088
+
+abbrev pub sourceOf : List ℕ → ℕ → ℕ
+sourceOf w k = field w sources k
+
+-- the letter's byte of listed arc k
+abbrev pub byteOf : List ℕ → ℕ → ℕ → ℕ
+byteOf w base k = field w (arcsAt base) k / 256
+
+abbrev pub LetterChain : List ℕ → ℕ → ℕ → Type 0
+LetterChain w base plain = Chain (byteOf w base) w letterHeads letterNexts 256 plain
+
+-- listed arc k stands among those of configuration s
+abbrev pub Stands : List ℕ → (base count plain s k : ℕ) → Type 0
+Stands w base count plain s k = (s < count) × (startAt w base s ≤ k) × (k < endAt w base count plain s)
+
+-- each of the `plain` listed arcs has as its source the configuration among whose arcs it stands
+pub record Sourced (w : List ℕ) (base count plain : ℕ) : Type 0 where
+  pub of : (k : ℕ) → k < plain → Stands w base count plain (sourceOf w k) k
+  pub own : (s k : ℕ) → Stands w base count plain s k → (k < plain) × (sourceOf w k ≡ s)
+
+-- what a step by one letter asks of the words, whatever they stand for
+pub record Followable (w : List ℕ) (base plain : ℕ) : Type 0 where
+  pub few : plain ≤ 2048
+  pub above : letteredEnd ≤ base
+  pub block : blockEnd base ≤ length w
+  pub small : (k : ℕ) → k < plain → sourceOf w k < 256
+  pub chain : LetterChain w base plain
