@@ -1,3 +1,4 @@
 pub mod Noting
 pub mod Linking
 pub mod Following
+pub mod LetteredFrame

@@ -8,19 +8,19 @@ use Rattle.memory.specs.Chains.{Chain}
 use Rattle.memory.specs.Fields.{field}
 use Rattle.stepping.specs.Stepping.{endAt, startAt}
 
--- the source of each listed arc, 2,048 fields; the chains of the arcs by their letter's byte: 2,048 next fields and 256 heads. All of it
--- lies below the tables of the building
+-- the source of each listed arc, 2,048 fields; the chains of the arcs by their letter's byte: 2,048 next fields and 256 heads. They take
+-- the place of the second block, which comparing alone needs
 abbrev pub sources : ℕ
-sources = 0
+sources = 6592
 
 abbrev pub letterNexts : ℕ
-letterNexts = 512
+letterNexts = 7104
 
 abbrev pub letterHeads : ℕ
-letterHeads = 1024
+letterHeads = 7616
 
 abbrev pub letteredEnd : ℕ
-letteredEnd = 1088
+letteredEnd = 7680
 
 abbrev pub sourceOf : List ℕ → ℕ → ℕ
 sourceOf w k = field w sources k
@@ -44,7 +44,11 @@ pub record Sourced (w : List ℕ) (base count plain : ℕ) : Type 0 where
 -- what a step by one letter asks of the words, whatever they stand for
 pub record Followable (w : List ℕ) (base plain : ℕ) : Type 0 where
   pub few : plain ≤ 2048
-  pub above : letteredEnd ≤ base
-  pub block : blockEnd base ≤ length w
+  pub apart : blockEnd base ≤ sources
+  pub room : letteredEnd ≤ length w
   pub small : (k : ℕ) → k < plain → sourceOf w k < 256
   pub chain : LetterChain w base plain
+
+-- where all plain arcs are listed, each has its source and can be found by its letter
+abbrev pub Lettered : List ℕ → (base count plain : ℕ) → Type 0
+Lettered w base count plain = plain ≤ 2048 → Followable w base plain × Sourced w base count plain

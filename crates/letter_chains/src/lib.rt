@@ -9,7 +9,7 @@ ghost use Rattle.explore.specs.Map.{blockEnd};
 ghost use Rattle.memory.specs.Frame.{Kept};
 ghost use Rattle.sets.specs.Sets.{view, Settled};
 ghost use Rattle.stepping.specs.Stepping.{FromList, Held, Starts};
-ghost use Rattle.letter_chains.specs.Lettered.{sources, letterNexts, letteredEnd, sourceOf, LetterChain, Sourced, Followable};
+ghost use Rattle.letter_chains.specs.Lettered.{sources, letterNexts, letteredEnd, sourceOf, LetterChain, Sourced, Followable, Lettered};
 use explore::map::BLOCK_ARCS;
 use explore::map::BLOCK_STARTS;
 use memory::chains::push;
@@ -19,11 +19,11 @@ use memory::put16;
 use stepping::end_of;
 
 // Where the sources and the chains stand (specs/Lettered.antt).
-const SOURCES: usize = 0;
+const SOURCES: usize = 6592;
 
-const LETTER_NEXTS: usize = 512;
+const LETTER_NEXTS: usize = 7104;
 
-const LETTER_HEADS: usize = 1024;
+const LETTER_HEADS: usize = 7616;
 
 // The listed arcs from `from` to before `to` have the source c.
 // Cost: one step for each of them.
@@ -43,7 +43,7 @@ fn note_source(w: &mut [u64], from: usize, to: usize, c: usize)
 // Each listed arc has its source.
 // Cost: one step for each of them.
 fn note_sources(w: &mut [u64], base: usize, count: usize, plain: usize)
-    requires { ⌜ (letterNexts ≤ base) × ((blockEnd base ≤ length (now w)) × ((0 < count) × Starts (now w) base count plain)) ⌝ }
+    requires { ⌜ (blockEnd base ≤ sources) × ((letteredEnd ≤ length (now w)) × ((0 < count) × Starts (now w) base count plain)) ⌝ }
     ensures kept { λ _. ⌜ Kept sources letterNexts (now (w .entry)) (now (w .exit)) ⌝ }
     ensures sourced { λ _. ⌜ Sourced (now (w .exit)) base count plain ⌝ }
 {
@@ -59,7 +59,7 @@ fn note_sources(w: &mut [u64], base: usize, count: usize, plain: usize)
 // Each listed arc joins the chain of its letter's byte.
 // Cost: one step for each of them.
 fn link_letters(w: &mut [u64], base: usize, plain: usize)
-    requires { ⌜ (letteredEnd ≤ base) × ((blockEnd base ≤ length (now w)) × (plain ≤ 2048)) ⌝ }
+    requires { ⌜ (blockEnd base ≤ sources) × ((letteredEnd ≤ length (now w)) × (plain ≤ 2048)) ⌝ }
     ensures kept { λ _. ⌜ Kept letterNexts letteredEnd (now (w .entry)) (now (w .exit)) ⌝ }
     ensures chain { λ _. ⌜ LetterChain (now (w .exit)) base plain ⌝ }
 {
@@ -72,15 +72,17 @@ fn link_letters(w: &mut [u64], base: usize, plain: usize)
     }
 }
 
-// The sources and the chains of the listed arcs.
+// The sources and the chains of the listed arcs, where all plain arcs are listed.
 // Cost: two steps for each of them.
 pub fn link(w: &mut [u64], base: usize, count: usize, plain: usize)
-    requires { ⌜ (letteredEnd ≤ base) × ((blockEnd base ≤ length (now w)) × ((0 < count) × Starts (now w) base count plain)) ⌝ }
+    requires { ⌜ (blockEnd base ≤ sources) × ((letteredEnd ≤ length (now w)) × ((0 < count) × (plain ≤ 2048 → Starts (now w) base count plain))) ⌝ }
     ensures kept { λ _. ⌜ Kept sources letteredEnd (now (w .entry)) (now (w .exit)) ⌝ }
-    ensures linked { λ _. ⌜ Followable (now (w .exit)) base plain × Sourced (now (w .exit)) base count plain ⌝ }
+    ensures linked { λ _. ⌜ Lettered (now (w .exit)) base count plain ⌝ }
 {
-    note_sources(w, base, count, plain);
-    link_letters(w, base, plain);
+    if plain <= 2048 {
+        note_sources(w, base, count, plain);
+        link_letters(w, base, plain);
+    }
 }
 
 // The live set after the letter l, of a set that no empty move leaves.

@@ -11,7 +11,7 @@ use native.Mathlib.Numerals.{add-one}
 use native.Mathlib.Omega.{arith}
 use borrow.Author.Tests.{le-ltb, lt-ltb}
 use lib.Dec.{T, eqb, eqb→eq}
-use lib.ListN.{getElem?, length}
+use lib.ListN.{getD, getElem?, length}
 use lib.Seq.{take-all}
 use Rattle.automata.specs.Automaton.{Automaton, Configuration, Run, letters, silent, stay}
 use Rattle.automata.specs.Lists.{countFrom}
@@ -170,9 +170,16 @@ explored-built x L {k = k} {p} found few above kept closed short =
     let a = explored-few x L k p (found .answer) in
     built x L (a .0) (a .1) (a .2) few above (found .block) kept closed short
 
--- The configurations stand where exploring left them.
+-- The configurations stand where they were, and where exploring left them.
+pub stored-kept : (x : Automaton) (L : ℕ) (w w' : List ℕ) (k : ℕ) → length w' ≡ length w → ((i : ℕ) → i < k → getD w' (configs + i) 0 ≡ getD w (configs + i) 0) → Stored x L w k → Stored x L w' k
+stored-kept x L w w' k e f t = part-same w w' configs k e f ∙ t
+
 pub explored-stored : (x : Automaton) (L : ℕ) {w w' : List ℕ} {base k p : ℕ} → Explores x L w base (Tables k p) → k ≤ 256 → mapEnd ≤ base → Kept base (base + 4 * k) w w' → Stored x L w' k
-explored-stored x L {w} {w'} {k = k} found few above kept = part-same w w' configs k (kept .long) (λ i h. kept .below (configs + i) (omega arith)) ∙ found .block .table
+explored-stored x L {w} {w'} {k = k} found few above kept = stored-kept x L w w' k (kept .long) (λ i h. kept .below (configs + i) (omega arith)) (found .block .table)
+
+-- There is a configuration.
+pub some-configuration : {x : Automaton} {L : ℕ} {w : List ℕ} {base k p : ℕ} → Built x L w base k p → 0 < k
+some-configuration {x} {L} b = rw (b .many) (getElem?-lt (configurations x L) 0 (first-configuration x L (rw (← b .many) (b .ended))))
 
 -- ---- the start of a walk over words
 -- Row 0 of a built block is the live set of the empty word.
@@ -194,7 +201,7 @@ row-start {x} {L} {w} {base} {k} b = (is, (λ j t. run-below k arcs inside pos (
     inside a m = rw (b .many) (within x L fits a m)
 
     pos : 0 < k
-    pos = rw (b .many) (getElem?-lt (configurations x L) 0 (first-configuration x L fits))
+    pos = some-configuration b
 
     is : view k (row w base 0) ≡ epsilonClosure k (plainArcs x L) (table k (eqb 0))
     is = view-is k (row w base 0) (epsilonClosure k arcs first) (length-rounds k arcs inside k first (length-table k (eqb 0))) (λ j h. (

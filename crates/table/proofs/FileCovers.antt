@@ -113,5 +113,5 @@ pub built-outgoing : (file : List ℕ) (c : Counts) {L : ℕ} {w w' : List ℕ} 
     → Outgoing file c w' base k p (letters (decoded c file)) (plainArcs (decoded c file) L)
 built-outgoing file c h s kept b t = record {
   listed = λ l. held-same (λ i m j g. list-kept (block-kept kept (s .room .apart)) i (s .starts l) g refl refl m j) (b .held l);
-  filed = λ l. held-same (λ i m j g. from-kept (map-kept h (s .room) (s .findable .configured .few) kept) file c i g m j) (file-held file c (s .walkable .lies) b t);
+  filed = λ l. held-same (λ i m j g. from-kept (map-kept h (s .room .apart) (s .findable .configured .few) kept) file c i g m j) (file-held file c (s .walkable .lies) b t);
 }

@@ -12,7 +12,7 @@ use lib.ListN.{drop, getD}
 use Rattle.automata.specs.Lists.{collect, prepend}
 use Rattle.automata.proofs.ListLaws.{and-iff, eqb-iff, or-iff}
 use Rattle.explore.specs.Arcs.{ArcAt, Indexed, Linked, Walkable, placeOf}
-use Rattle.explore.specs.Map.{arcHeads, arcNexts, configs, mapEnd, offsets}
+use Rattle.explore.specs.Map.{arcHeads, arcNexts, blockEnd, configs, mapEnd, offsets}
 use Rattle.explore.specs.Packed.{Hop, hop, hopWith, hops, performPacked}
 use Rattle.explore.specs.declared.Outcome.{Outcome}
 use Rattle.explore.specs.declared.Outcome.the-variants.{Failed, Leaves}
@@ -135,8 +135,8 @@ pub record SameMap (base known : ℕ) (w w' : List ℕ) : Type 0 where
   pub block : SameBlock base w w'
   pub words : (i : ℕ) → i < mapEnd → getD w' i 0 ≡ getD w i 0
 
-pub map-kept : {base acc known : ℕ} {w₀ w w' : List ℕ} → mapEnd ≤ acc → Room w₀ base acc → known ≤ 256 → Kept acc (acc + 256) w w' → SameMap base known w w'
-map-kept h r few k = record { few = few; block = block-kept k (r .apart); words = λ i l. k .below i (omega arith) }
+pub map-kept : {base a b known : ℕ} {w w' : List ℕ} → mapEnd ≤ a → (b ≤ base) ⊎ (blockEnd base ≤ a) → known ≤ 256 → Kept a b w w' → SameMap base known w w'
+map-kept h apart few k = record { few = few; block = block-kept k apart; words = λ i l. k .below i (omega arith) }
 
 module _ {w w' : List ℕ} {base known : ℕ} (s : SameMap base known w w') where
   pub led-kept : (hs : List Hop) (p j : ℕ) → Led w' base known hs p j ↔ Led w base known hs p j
@@ -174,9 +174,8 @@ module _ {w w' : List ℕ} {base known : ℕ} (s : SameMap base known w w') wher
     apart = λ i t h g e. f .apart i t h g (sym (s .words (configs + i) (omega (arith, s .few))) ∙ e ∙ s .words (configs + t) (omega (arith, s .few)));
   }
 
-pub steppable-kept : {file : List ℕ} {c : Counts} {w w' : List ℕ} {base acc count plain : ℕ} → mapEnd ≤ acc → Kept acc (acc + 256) w w' → Steppable file c w base acc count plain → Steppable file c w' base acc count plain
-steppable-kept {w = w} {w' = w'} h k s =
-    let same = map-kept h (s .room) (s .findable .configured .few) k in
+pub steppable-kept : {file : List ℕ} {c : Counts} {w w' : List ℕ} {base acc count plain : ℕ} → SameMap base count w w' → Steppable file c w base acc count plain → Steppable file c w' base acc count plain
+steppable-kept {w = w} {w' = w'} same s =
     record {
       room = room-kept (same .block) (s .room);
       starts = λ l. starts-kept (same .block) (s .starts l);
@@ -246,7 +245,7 @@ module _ {file w₀ : List ℕ} {n : Counts} {base acc known own met₀ : ℕ} {
           rest = hopsOf file w₀ own (chosen (stateOf file w₀) (own / 2 ^ 32) j)
 
           same : SameMap base known w₀ w
-          same = map-kept high r few (g .kept)
+          same = map-kept high (r .apart) few (g .kept)
 
           to : (p q : ℕ) → p < 64 → T (inSet (setOf w' acc met' p) q) ⊎ Led w₀ base known rest p q
               → T (inSet (setOf w acc met p) q) ⊎ Led w₀ base known (hopsOf file w₀ own (chosen (stateOf file w₀) (own / 2 ^ 32) (g .upto))) p q

@@ -30,8 +30,7 @@ pub enum Membership {
 // Cost: b + k * o + k * k + n * (a + k * o) steps, where b is the number of bytes of the file, o that of its arcs and operations, a that
 // of its letters, k that of its configurations, 256 at most, and n that of the bytes of the word. An arc that passes costs besides a
 // look into the table of configurations: as many steps as configurations have the key of its target, k at most. Where there are at
-// most 2,048 plain arcs, the word costs no such looks, and a letter one step for each plain arc of a live configuration. Nothing is
-// allocated.
+// most 2,048 plain arcs, the word costs no such looks, and a letter one step for each plain arc with that letter. Nothing is allocated.
 pub fn accepts(file: &[u8], word: &[u8], work: &mut [u64]) -> Membership
     ensures same { λ _. ⌜ length (now (work .exit)) ≡ length (now (work .entry)) ⌝ }
     ensures answer { λ r. ⌜ r ≡ membershipOf (now (file .entry)) (now (word .entry)) (length (now (work .entry))) ⌝ }

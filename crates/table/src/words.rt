@@ -2,9 +2,12 @@
 ghost use mathlib.Core.Path.{_≡_};
 ghost use mathlib.Core.List.{List};
 ghost use Prim.Native.Nat.{ℕ, _+_, _≤_, _<_};
+ghost use lib.ListN.{length};
 ghost use Rattle.automata.specs.Live.{PlainArc, byLetter};
 ghost use Rattle.automata.specs.Unfolding.{plainArcs};
+ghost use Rattle.explore.specs.Map.{blockEnd};
 ghost use Rattle.format.specs.Decoding.{decoded};
+ghost use Rattle.letter_chains.specs.Lettered.{sources, letteredEnd, Lettered};
 ghost use Rattle.memory.specs.Frame.{Kept};
 ghost use Rattle.sets.specs.Sets.{view, Settled, Within};
 ghost use Rattle.table.specs.FileSteps.{Outgoing, Steppable};
@@ -15,15 +18,16 @@ use super::file_steps::step_file;
 use super::finals::final_set;
 use format::Counts;
 use format::letters::Letter;
+use letter_chains::follow;
+use letter_chains::link;
 use stepping::set_of;
-use stepping::step;
 
 // Where the sets of the letters stand.
 const LETTER_SETS: usize = 4480;
 
-// The live set after the letter l: by the listed arcs where all plain arcs are listed, else by the arcs in the file.
-// Cost: one row for each arc of a live configuration; and, where they are not listed, one step for each operation of the arcs that
-// leave its state, and a look into the table of configurations for each that passes.
+// The live set after the letter l: by the listed arcs with that letter where all plain arcs are listed, else by the arcs in the file.
+// Cost: one step for each listed arc with the letter; where they are not listed, one for each operation of the arcs that leave the state
+// of a live configuration, and a look into the table of configurations for each that passes.
 fn step_letter(
     file: &[u8],
     c: Counts,
@@ -34,14 +38,13 @@ fn step_letter(
     set: [u64; 4],
     l: usize,
 ) -> [u64; 4]
-    requires { ⌜ (l < 64) × Steppable (now file) c (now w) base letterSets count plain ⌝ }
+    requires { ⌜ (l < 64) × (Steppable (now file) c (now w) base letterSets count plain × Lettered (now w) base count plain) ⌝ }
     ensures kept { λ _. ⌜ Kept letterSets (letterSets + 256) (now (w .entry)) (now (w .exit)) ⌝ }
     ensures set { λ r. ⌜ ((letters : ℕ) (arcs : List PlainArc) → Outgoing (now (file .entry)) c (now (w .entry)) base count plain letters arcs → letters ≤ 64 → Settled count arcs set → l < letters
         → (view count r ≡ byLetter count arcs (view count set) l) × Settled count arcs r) ⌝ }
 {
     if plain <= 2048 {
-        let met = step(w, base, LETTER_SETS, count, plain, set);
-        return set_of(w, LETTER_SETS, met, l);
+        return follow(w, base, plain, set, l);
     }
     let met = step_file(file, c, w, base, LETTER_SETS, count, set);
     set_of(w, LETTER_SETS, met, l)
@@ -59,7 +62,7 @@ pub fn walk_word(
     plain: usize,
     from: [u64; 4],
 ) -> [u64; 4]
-    requires { ⌜ (c .letters ≤ 64) × Steppable (now file) c (now w) base letterSets count plain ⌝ }
+    requires { ⌜ (c .letters ≤ 64) × (Steppable (now file) c (now w) base letterSets count plain × Lettered (now w) base count plain) ⌝ }
     ensures kept { λ _. ⌜ Kept letterSets (letterSets + 256) (now (w .entry)) (now (w .exit)) ⌝ }
     ensures set { λ r. ⌜ ((L : ℕ) → Built (decoded c (now (file .entry))) L (now (w .entry)) base count plain → Stored (decoded c (now (file .entry))) L (now (w .entry)) count → Settled count (plainArcs (decoded c (now (file .entry))) L) from
         → (view count r ≡ liveBytes (decoded c (now (file .entry))) L count (view count from) (now (word .entry))) × Within count r) ⌝ }
@@ -78,7 +81,7 @@ pub fn walk_word(
 }
 
 // Does the automaton of the file accept the word, and how many configurations are live after it? Its block is built already.
-// Cost: that of the walk over the word, and one look at each configuration.
+// Cost: two steps for each listed arc, that of the walk over the word, and one look at each configuration.
 pub fn judge_word(
     file: &[u8],
     c: Counts,
@@ -88,12 +91,13 @@ pub fn judge_word(
     count: usize,
     plain: usize,
 ) -> Membership
-    requires { ⌜ Ready (now file) c (now w) base count plain ⌝ }
-    ensures kept { λ _. ⌜ Kept letterSets (letterSets + 256) (now (w .entry)) (now (w .exit)) ⌝ }
+    requires { ⌜ Ready (now file) c (now w) base count plain × ((blockEnd base ≤ sources) × (letteredEnd ≤ length (now w))) ⌝ }
+    ensures kept { λ _. ⌜ Kept letterSets letteredEnd (now (w .entry)) (now (w .exit)) ⌝ }
     ensures answer { λ r. ⌜ r ≡ judged 256 (decoded c (now (file .entry))) (now (word .entry)) ⌝ }
 {
     let finals = final_set(file, c, w, count);
     let start = sets::rows::load(w, base, 0);
+    link(w, base, count, plain);
     let live = walk_word(file, c, word, w, base, count, plain, start);
     let many = sets::size(live) as u64;
     if sets::meets(live, finals) {

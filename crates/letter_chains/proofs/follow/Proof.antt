@@ -23,28 +23,28 @@ abbrev μ-loop : tie.MeasureT-loop
 μ-loop w base plain set l out₀ k₀ out k = (k + 1) % 65536
 
 get16-requires : tie.Need-get16-requires Inv-loop μ-loop
-get16-requires c κs = let p = c .before .before .pre in omega (arith, p .0, p .1 .above, p .1 .block)
+get16-requires c κs = let p = c .before .before .pre in omega (arith, p .0, p .1 .apart, p .1 .room)
 
 loop-holds : tie.Need-loop-holds Inv-loop μ-loop
 loop-holds c = let p = c .before .before .before .pre in following-start _ _ (p .1 .chain) (p .0) (c .get16 .ensures .0) (c .before .empty .ensures)
 
 get16-requires-2 : tie.Need-get16-requires-2 Inv-loop μ-loop
-get16-requires-2 c κs = let p = c .before .before .before .before .before .pre in omega (arith, c .loop-test .taken, p .1 .few, p .1 .above, p .1 .block)
+get16-requires-2 c κs = let p = c .before .before .before .before .before .pre in omega (arith, c .loop-test .taken, p .1 .few, p .1 .apart, p .1 .room)
 
 has-requires : tie.Need-has-requires Inv-loop μ-loop
 has-requires c κs = let i = c .before in omega (arith, c .get162 .ensures .0, i .before .before .before .before .before .pre .1 .small _ (i .loop-test .taken))
 
 add-get16 : tie.Need-add-get16 Inv-loop μ-loop
-add-get16 c = omega (arith, c .before .before .before .before .before .before .before .before .pre .1 .block)
+add-get16 c = omega (arith, c .before .before .before .before .before .before .before .before .pre .1 .apart)
 
 get16-requires-3 : tie.Need-get16-requires-3 Inv-loop μ-loop
-get16-requires-3 c κs = let i = c .before .before .before in let p = i .before .before .before .before .before .pre in omega (arith, i .loop-test .taken, p .1 .few, p .1 .block)
+get16-requires-3 c κs = let i = c .before .before .before in let p = i .before .before .before .before .before .pre in omega (arith, i .loop-test .taken, p .1 .few, p .1 .apart, p .1 .room)
 
 load-requires : tie.Need-load-requires Inv-loop μ-loop
-load-requires c κs = omega (arith, c .before .before .before .before .before .before .before .before .before .pre .1 .block)
+load-requires c κs = let f = c .before .before .before .before .before .before .before .before .before .pre .1 in omega (arith, f .apart, f .room)
 
 get16-requires-4 : tie.Need-get16-requires-4 Inv-loop μ-loop
-get16-requires-4 c κs = let i = c .before .before .before in let p = i .before .before .before .before .before .pre in omega (arith, i .loop-test .taken, p .1 .few, p .1 .above, p .1 .block)
+get16-requires-4 c κs = let i = c .before .before .before in let p = i .before .before .before .before .before .pre in omega (arith, i .loop-test .taken, p .1 .few, p .1 .apart, p .1 .room)
 
 loop-less : tie.Need-loop-less Inv-loop μ-loop
 loop-less c =
@@ -74,7 +74,7 @@ returns c =
     let l = c .before in
     let p = l .before .before .before .before .pre in
     λ count letters arcs sourced held settled h.
-        led _ (l .loop .out) (omega arith) letters arcs held settled _ h (λ j. iff-trans (following-end (l .loop .inv) (p .1) (c .loop-test .left) j) (leading-onward sourced _ _ j))
+    led _ (l .loop .out) (omega arith) letters arcs held settled _ h (λ j. iff-trans (following-end (l .loop .inv) (p .1) (c .loop-test .left) j) (leading-onward sourced _ _ j))
 
 pub follow-spec : {M : Type 1} → statement M
 follow-spec =

@@ -25,14 +25,14 @@ kept : (l : tie.At-loop Inv-loop μ-loop) → Kept letterNexts letteredEnd (l .b
 kept l = kept-then (kept-wider (omega arith) (omega arith) (l .before .before .before .fill .ensures .0)) (l .loop .inv .kept)
 
 add-get16 : tie.Need-add-get16 Inv-loop μ-loop
-add-get16 c = let l = c .before .before in omega (arith, l .before .before .before .before .before .before .pre .1 .0, kept l .long)
+add-get16 c = omega (arith, c .before .before .before .before .before .before .before .before .pre .0)
 
 get16-requires : tie.Need-get16-requires Inv-loop μ-loop
 get16-requires c κs =
     let i = c .before in
     let l = i .before in
     let p = l .before .before .before .before .before .before .pre in
-    omega (arith, i .loop-test .taken, p .1, kept l .long)
+    omega (arith, i .loop-test .taken, p .0, p .1, kept l .long)
 
 push-requires : tie.Need-push-requires Inv-loop μ-loop
 push-requires c κs =
@@ -63,7 +63,7 @@ same-length : tie.Need-same-length Inv-loop μ-loop
 same-length c = kept (c .before) .long
 
 returns : tie.Need-returns Inv-loop μ-loop
-returns c = let l = c .before in (kept l, linking-end (l .before .before .before .before .before .before .pre .0) (c .loop-test .left) (l .loop .inv))
+returns c = let l = c .before in (kept l, let p = l .before .before .before .before .before .before .pre in linking-end (p .0) (p .1 .1) (c .loop-test .left) (l .loop .inv))
 
 pub link-letters-spec : {M : Type 1} → statement M
 link-letters-spec =

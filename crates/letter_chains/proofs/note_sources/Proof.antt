@@ -1,6 +1,6 @@
 -- `letter_chains::note_sources` meets its contract. The loop's invariant: the arcs of the first c configurations have their sources
 -- (Noting).
-use mathlib.Core.Logic.{inl}
+use mathlib.Core.Logic.{inr}
 use Prim.Native.Nat.{_-_}
 use native.Mathlib.Omega.{arith}
 use Rattle.stepping.specs.Stepping.{startAt}
@@ -20,24 +20,24 @@ loop-holds c = let p = c .before .pre .1 .1 in noting-start (p .0) (p .1)
 
 -- the block is as it was
 same : (l : tie.At-loop Inv-loop μ-loop) → SameBlock (l .before .before .args .base) (l .before .before .args .w .now) (l .loop .w)
-same l = block-kept (l .loop .inv .kept) (inl (l .before .before .pre .0))
+same l = block-kept (l .loop .inv .kept) (inr (l .before .before .pre .0))
 
 add-get16 : tie.Need-add-get16 Inv-loop μ-loop
-add-get16 c = let l = c .before .before in omega (arith, l .before .before .pre .1 .0, same l .long)
+add-get16 c = let l = c .before .before in omega (arith, l .before .before .pre .0)
 
 get16-requires : tie.Need-get16-requires Inv-loop μ-loop
 get16-requires c κs =
     let i = c .before in
     let l = i .before in
-    let p = l .before .before .pre .1 in
-    omega (arith, i .loop-test .taken, p .0, p .1 .1 .few, same l .long)
+    let p = l .before .before .pre in
+    omega (arith, i .loop-test .taken, p .0, p .1 .0, p .1 .1 .1 .few, same l .long)
 
 end-of-requires : tie.Need-end-of-requires Inv-loop μ-loop
 end-of-requires c κs =
     let i = c .before .before .before in
     let l = i .before in
-    let p = l .before .before .pre .1 in
-    (i .loop-test .taken, (p .1 .1 .few, omega (arith, p .0, same l .long)))
+    let p = l .before .before .pre in
+    (i .loop-test .taken, (p .1 .1 .1 .few, omega (arith, p .0, p .1 .0, same l .long)))
 
 note-source-requires : tie.Need-note-source-requires Inv-loop μ-loop
 unfolding startAt

@@ -55,7 +55,7 @@ judge-word-requires c κs =
     let i = r .before in
     let a = i .before .before .before .before .args in
     let built = subst (λ (x : Explored). BuiltAs (decoded (v .0 .0) (a .file .now)) 256 (b .build .last .1 .1 .0) 4992 x) (t .1) (b .build .ensures .1 .1 .block) in
-    built-ready (sym (r .read .ensures) ∙ v .1) (record { above = omega arith; block = omega (arith, i .if1 .left, b .build .ensures .0 .long) }) (omega arith) (b .build .ensures .1 .0 .0) (b .build .ensures .1 .0 .1) (built .0) (built .1 .0) (built .1 .1)
+    (built-ready (sym (r .read .ensures) ∙ v .1) (record { above = omega arith; block = omega (arith, i .if1 .left, b .build .ensures .0 .long) }) (omega arith) (b .build .ensures .1 .0 .0) (b .build .ensures .1 .0 .1) (built .0) (built .1 .0) (built .1 .1), (omega arith, omega (arith, i .if1 .left, b .build .ensures .0 .long)))
 
 -- the word is judged
 returns-4 : tie.Need-returns-4

@@ -25,7 +25,7 @@ visit-file-requires c κs =
     let l = i .before in
     let b = l .before .before .before .before in
     let p = b .pre in
-    let same = map-kept (p .1 .0) (p .1 .1 .0) (p .1 .1 .1 .configured .few) (l .loop .inv .kept) in (
+    let same = map-kept (p .1 .0) (p .1 .1 .0 .apart) (p .1 .1 .1 .configured .few) (l .loop .inv .kept) in (
       (p .0 .0, (indexed-kept (b .args .w .now) (l .loop .w) (p .0 .0) (λ j h. same .words j (omega arith)) (p .0 .1 .0), linked-kept (b .args .w .now) (l .loop .w) (p .0 .0) (λ j h. same .words j (omega arith)) (p .0 .1 .1))),
       (i .loop-test .taken, (p .1 .0, (room-kept (same .block) (p .1 .1 .0), findable-kept same (p .1 .1 .1)))),
     )
@@ -52,7 +52,7 @@ loop-again c =
     stepping-more (FromFile (b .args .file .now) (b .args .counts) (b .args .w .now) (b .args .base) (b .args .known))
     {Own = FromFile (b .args .file .now) (b .args .counts) (l .loop .w) (b .args .base) (b .args .known) (l .loop .c)} (v .visit-file .result) (omega (arith, i .loop-test .taken, p .1 .1 .1 .configured .few)) (l .loop .inv)
     (v .visit-file .ensures .0) (v .visit-file .ensures .1)
-    (from-kept (map-kept (p .1 .0) (p .1 .1 .0) (p .1 .1 .1 .configured .few) (l .loop .inv .kept)) (b .args .file .now) (b .args .counts) (l .loop .c) (i .loop-test .taken))
+    (from-kept (map-kept (p .1 .0) (p .1 .1 .0 .apart) (p .1 .1 .1 .configured .few) (l .loop .inv .kept)) (b .args .file .now) (b .args .counts) (l .loop .c) (i .loop-test .taken))
     (c .next-live2 .ensures)
 
 same-length : tie.Need-same-length Inv-loop μ-loop

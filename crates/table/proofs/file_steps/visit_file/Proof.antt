@@ -38,7 +38,7 @@ take-arc-requires c κs =
     let l = t .before .before in
     let s = l .before .before .before .before .before .before in
     let p = s .pre in
-    let same = map-kept (p .1 .1 .0) (p .1 .1 .1 .0) (p .1 .1 .1 .1 .configured .few) (l .loop .inv .kept) in
+    let same = map-kept (p .1 .1 .0) (p .1 .1 .1 .0 .apart) (p .1 .1 .1 .1 .configured .few) (l .loop .inv .kept) in
     (arc-here (l .loop .inv) (p .0 .0) (p .0 .1 .0) (p .0 .1 .1) (p .1 .1 .0) (t .if1 .taken) (g .get162 .ensures .0), (p .1 .1 .0, (room-kept (same .block) (p .1 .1 .1 .0), findable-kept same (p .1 .1 .1 .1))))
 
 get16-requires-3 : tie.Need-get16-requires-3 Inv-loop μ-loop

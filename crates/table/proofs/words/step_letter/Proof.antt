@@ -1,35 +1,36 @@
--- `table::words::step_letter` meets its contract: the set of the letter, of the sets that a step leaves, by the list or by the file.
+-- `table::words::step_letter` meets its contract: by the listed arcs of the letter, or by the set of the letter among those that a step by
+-- the file leaves.
 use borrow.Author.Needs.{needs}
 use native.Mathlib.Omega.{arith}
+use Rattle.memory.proofs.Laws.{kept-same}
 use Rattle.table.proofs.words.step_letter.Statement.{statement}
 use Rattle.table.proofs.words.step_letter.Tie as tie
 
-step-requires : tie.Need-step-requires
-step-requires c κs = let i = c .before in let s = i .before .before .before in (s .pre .1 .room, s .pre .1 .starts (i .if1 .taken))
+follow-requires : tie.Need-follow-requires
+follow-requires c κs = let i = c .before in let p = i .before .before .before .pre in (omega (arith, p .0), p .1 .1 (i .if1 .taken) .0)
 
 returns : tie.Need-returns
 returns c =
-    let s = c .before .before .before .before in
-    let i = s .before .before in
-    let a = i .before .before .before .args in
-    (s .step .ensures .0, λ letters arcs out few within h. rw (c .set-of .ensures) (s .step .ensures .1 letters arcs (out .listed (i .if1 .taken)) few within (a .l) h))
+    let i = c .before .before in
+    let p = i .before .before .before .pre in
+    let h = i .if1 .taken in
+    (kept-same _ _ _, λ letters arcs out few settled l. c .follow .ensures _ letters arcs (p .1 .1 h .1) (out .listed h) settled l)
 
 step-file-requires : tie.Need-step-file-requires
-step-file-requires c κs = let p = c .before .before .before .before .pre .1 in ((p .walkable, (p .indexed, p .linked)), (omega arith, (p .room, p .findable)))
+step-file-requires c κs = let p = c .before .before .before .before .pre .1 .0 in ((p .walkable, (p .indexed, p .linked)), (omega arith, (p .room, p .findable)))
 
 returns-2 : tie.Need-returns-2
 returns-2 c =
     let s = c .before .before .before .before in
     let i = s .before .before in
     let a = i .before .before .before .args in
-    (s .step-file .ensures .0, λ letters arcs out few within h. rw (c .set-of2 .ensures) (s .step-file .ensures .1 letters arcs (out .filed (omega (arith, i .if1 .left))) few within (a .l) h))
+    (s .step-file .ensures .0, λ letters arcs out few within h. rw (c .set-of .ensures) (s .step-file .ensures .1 letters arcs (out .filed (omega (arith, i .if1 .left))) few within (a .l) h))
 
 pub step-letter-spec : {M : Type 1} → statement M
 step-letter-spec =
     tie.close
     (tie.spec
-    step-requires
-    (λ c κs. search needs)
+    follow-requires
     (λ c. search needs)
     returns
     step-file-requires

@@ -10,8 +10,9 @@ use Rattle.format.specs.Letters.{letterNumber}
 use Rattle.format.specs.Reading.{letterBytes}
 use Rattle.format.specs.declared.letters.Letter.the-variants.{At}
 use Rattle.format.proofs.Steps.{letters-length}
+use Rattle.letter_chains.proofs.LetteredFrame.{lettered-kept}
 use Rattle.table.proofs.FileCovers.{built-outgoing}
-use Rattle.table.proofs.FileVisits.{steppable-kept}
+use Rattle.table.proofs.FileVisits.{map-kept, steppable-kept}
 use Rattle.table.proofs.WordSteps.{Walking, letter-lt, walking-end, walking-foreign, walking-more, walking-start}
 use Rattle.table.proofs.words.walk_word.Statement.{statement}
 use Rattle.table.proofs.words.walk_word.Tie as tie
@@ -46,7 +47,11 @@ step-letter-requires c κs =
     let l = f .before .before .before .before .before in
     let s = l .before .before .before .before in
     let p = s .pre in
-    (omega (arith, letter-lt _ _ _ (letter f), letters-length (s .args .c) (s .args .file .now) (omega (arith, p .1 .walkable .lies .fits)), p .0), steppable-kept (omega arith) (l .loop .inv .kept) (p .1))
+    let few = p .1 .0 .findable .configured .few in
+    let same = map-kept (omega arith) (p .1 .0 .room .apart) few (l .loop .inv .kept) in (
+      omega (arith, letter-lt _ _ _ (letter f), letters-length (s .args .c) (s .args .file .now) (omega (arith, p .1 .0 .walkable .lies .fits)), p .0),
+      (steppable-kept same (p .1 .0), lettered-kept (same .block) (λ i h. l .loop .inv .kept .above i (omega arith)) few (p .1 .1)),
+    )
 
 loop-again : tie.Need-loop-again Inv-loop μ-loop
 unfolding decoded
@@ -57,8 +62,8 @@ loop-again c =
     let l = i .before in
     let b = l .before .before .before .before in
     let p = b .pre in
-    walking-more (l .loop .inv) (λ L built stored. built-outgoing (b .args .file .now) (b .args .c) (omega arith) (p .1) (l .loop .inv .kept) built stored)
-    (omega (arith, letters-length (b .args .c) (b .args .file .now) (omega (arith, p .1 .walkable .lies .fits)), p .0)) (i .loop-test .taken) (letter f) (s .step-letter .ensures .0) (s .step-letter .ensures .1)
+    walking-more (l .loop .inv) (λ L built stored. built-outgoing (b .args .file .now) (b .args .c) (omega arith) (p .1 .0) (l .loop .inv .kept) built stored)
+    (omega (arith, letters-length (b .args .c) (b .args .file .now) (omega (arith, p .1 .0 .walkable .lies .fits)), p .0)) (i .loop-test .taken) (letter f) (s .step-letter .ensures .0) (s .step-letter .ensures .1)
 
 same-length-2 : tie.Need-same-length-2 Inv-loop μ-loop
 same-length-2 c = c .before .loop .inv .kept .long
