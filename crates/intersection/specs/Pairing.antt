@@ -8,6 +8,7 @@ use lib.ListN.{length, drop}
 use Rattle.automata.specs.Lists.{any, keep, countFrom}
 use Rattle.automata.specs.Automaton.{Arc}
 use Rattle.automata.specs.Joins.{arcFrom, arcBoth, alike, isEmptyMove, movedOp}
+use Rattle.format.specs.declared.Counts.{Counts}
 use Rattle.format.specs.Reading.{arcSize}
 use Rattle.format.specs.Decoding.{arcOf}
 use Rattle.format.specs.Encoding.{arcsBytes}
@@ -41,3 +42,7 @@ pub record Tallied (t : Tally) (l : List Arc) : Type 0 where
   pub arcs : t .arcs ≡ length l
   pub size : t .size ≡ length (arcsBytes l)
   pub many : t .many ≡ any manyOps l
+
+-- these counts, but n arcs
+abbrev pub withArcs : ℕ → Counts → Counts
+withArcs n c = record { letters = c .letters; states = c .states; registers = c .registers; symbols = c .symbols; arcs = n }

@@ -1,5 +1,5 @@
 // intersection: the intersection of two automata in files (document 01, 'Joining books'). Its arcs are counted first, so that a
-// result beyond a limit is refused before anything is written.
+// result beyond a limit is refused before anything is written; and they are counted only where states and registers are few enough.
 ghost use mathlib.Core.Path.{_≡_};
 ghost use Prim.Native.Nat.{_+_, _*_, _≤_};
 ghost use lib.ListN.{length};
@@ -11,12 +11,14 @@ ghost use Rattle.format.specs.Limits.{Ranges, Fits};
 ghost use Rattle.writing.specs.Placing.{Appended};
 ghost use Rattle.writing.specs.Answers.{outputOf};
 ghost use Rattle.joining.specs.Joining.{Joinable, writtenOf};
+ghost use Rattle.intersection.specs.Pairing.{withArcs};
 use beside::Beside;
 use beside::write_empty_moves;
 use counting::count_arcs;
 use finals::write_both_flags;
 use format::Counts;
 use joining::answer::decide;
+use joining::answer::is_beyond;
 use joining::answer::larger;
 use joining::front::write_front;
 use joint::write_joint_arcs;
@@ -27,10 +29,10 @@ mod counting;
 mod finals;
 mod joint;
 
-// The counts of the intersection of automata with these counts, which has this many arcs.
+// The counts of the intersection of automata with these counts, but this many arcs.
 fn product_counts(a: Counts, b: Counts, arcs: usize) -> Counts
     requires { ⌜ Ranges a × Ranges b ⌝ }
-    ensures { λ r. ⌜ ((x y : Automaton) → sizes x ≡ a → sizes y ≡ b → length (intersection x y .arcs) ≡ arcs → sizes (intersection x y) ≡ r) ⌝ }
+    ensures { λ r. ⌜ ((x y : Automaton) → sizes x ≡ a → sizes y ≡ b → withArcs arcs (sizes (intersection x y)) ≡ r) ⌝ }
 {
     Counts {
         letters: a.letters,
@@ -88,12 +90,16 @@ fn write_product(
 
 // The intersection of two files that are valid and list the same letters. Answers its length, or 11, beyond a limit on states,
 // registers, arcs or operations of an arc, or 25, the output shorter than the result; a refusal leaves the output as it was.
-// Cost: the pairs of arcs to count them, and as many again and the bytes written to write it.
+// Cost: where states and registers alone are beyond a limit, constant; else the pairs of arcs to count them, and as many again
+// and the bytes written to write it.
 pub fn product(out: &mut [u8], a: Counts, first: &[u8], b: Counts, second: &[u8]) -> Written
     requires { ⌜ Joinable a b (now first) (now second) ⌝ }
     ensures answer { λ r. ⌜ r ≡ writtenOf (intersection (automatonOf (now (first .entry))) (automatonOf (now (second .entry)))) (length (now (out .entry))) ⌝ }
     ensures output { λ r. ⌜ now (out .exit) ≡ outputOf r (bytesOf (intersection (automatonOf (now (first .entry))) (automatonOf (now (second .entry))))) (now (out .entry)) ⌝ }
 {
+    if is_beyond(product_counts(a, b, 0)) {
+        return Written::Refused(11, 0);
+    }
     let t = count_arcs(a, first, b, second);
     if t.many {
         return Written::Refused(11, 0);

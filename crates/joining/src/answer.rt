@@ -24,11 +24,18 @@ pub fn arcs_size(c: Counts, file: &[u8]) -> usize
     file.len() - (12 + c.letters + c.states)
 }
 
+// Whether there are more states, registers or arcs than a file can have.
+pub fn is_beyond(c: Counts) -> bool
+    ensures { λ r. ⌜ r ≡ manyCounts c ⌝ }
+{
+    (256 < c.states) | (8 < c.registers) | (2048 < c.arcs)
+}
+
 // 11 where the counts are beyond a limit, 25 where the output is shorter than the result, else the result's length.
 pub fn decide(c: Counts, size: usize, space: usize) -> Written
     ensures { λ r. ⌜ r ≡ decided (manyCounts c) size space ⌝ }
 {
-    if (256 < c.states) | (8 < c.registers) | (2048 < c.arcs) {
+    if is_beyond(c) {
         return Written::Refused(11, 0);
     }
     if space < size {

@@ -10,13 +10,14 @@ use Rattle.format.specs.declared.Counts.{Counts}
 use Rattle.format.specs.Decoding.{automatonOf}
 use Rattle.format.specs.Encoding.{sizes}
 use Rattle.file_laws.proofs.ValidLaws.{valid-ranges, valid-sizes, valid-fits}
-use Rattle.joining.specs.Joining.{writtenOf}
+use Rattle.joining.specs.Joining.{manyCounts, writtenOf}
 use Rattle.joining.proofs.FinalLaws.{valid-lengths}
 use Rattle.joining.proofs.AnswerLaws.{decided-written, written-bytes}
+use Rattle.intersection.specs.Pairing.{withArcs}
 use Rattle.intersection.proofs.IntersectionBytes.{intersection-counts}
 use Rattle.intersection.proofs.IntersectionFits.{intersection-fits}
 use Rattle.file_laws.proofs.EncodingLaws.{bytes-length}
-use Rattle.intersection.proofs.ManyOps.{many-refused, none-many}
+use Rattle.intersection.proofs.ManyOps.{large-refused, many-refused, none-many}
 use Rattle.intersection.proofs.product.Statement.{statement}
 use Rattle.intersection.proofs.product.Tie as tie
 use Rattle.intersection.proofs.product.Reads as reads
@@ -25,103 +26,126 @@ use Rattle.intersection.proofs.counting.count_arcs.Reads as count-arcs-
 use Rattle.intersection.proofs.product_counts.Reads as product-counts-reads
 use Rattle.intersection.proofs.write_product.Reads as write-product-reads
 use Rattle.joining.proofs.answer.decide.Reads as decide-reads
+use Rattle.joining.proofs.answer.is_beyond.Reads as is-beyond-reads
 use Rattle.writing.proofs.FileParts.{file-written}
 
 -- the intersection, its counts, and that these are small
 abbrev joined : tie.Start → Automaton
 joined s = intersection (automatonOf (s .args .first .now)) (automatonOf (s .args .second .now))
 
-counts : (c : tie.After-product-counts) → sizes (joined (c .before .before .before .before .before .before)) ≡ c .product-counts .result
-counts c =
-    let s = c .before .before .before .before .before .before in
-    c .product-counts .ensures (automatonOf (s .args .first .now)) (automatonOf (s .args .second .now)) (valid-sizes _ _ (s .pre .first)) (valid-sizes _ _ (s .pre .second)) (sym (c .before .before .count-arcs .ensures .0 .arcs))
+abbrev begun : tie.After-count-arcs → tie.Start
+begun c = c .before .before .before .before .before .before .before
 
-small : (c : tie.After-product-counts) → (c .product-counts .result .letters ≤ 64) × (c .product-counts .result .states ≤ 65536) × (c .before .before .count-arcs .result .size ≤ 4836032512)
+counts : (c : tie.After-product-counts2) → sizes (joined (begun (c .before .before))) ≡ c .product-counts2 .result
+counts c =
+    let s = begun (c .before .before) in
+    ap (λ (n : ℕ). withArcs n (sizes (joined s))) (sym (c .before .before .count-arcs .ensures .0 .arcs))
+    ∙ c .product-counts2 .ensures (automatonOf (s .args .first .now)) (automatonOf (s .args .second .now)) (valid-sizes _ _ (s .pre .first)) (valid-sizes _ _ (s .pre .second))
+
+small : (c : tie.After-product-counts2) → (c .product-counts2 .result .letters ≤ 64) × (c .product-counts2 .result .states ≤ 65536) × (c .before .before .count-arcs .result .size ≤ 4836032512)
 small c =
-    let s = c .before .before .before .before .before .before in
+    let s = begun (c .before .before) in
     let a = s .args in
     let ra = valid-ranges _ _ (s .pre .first) in
     let rb = valid-ranges _ _ (s .pre .second) in
     let la = valid-lengths _ _ (s .pre .first) in
     let lb = valid-lengths _ _ (s .pre .second) in
     let e = sym (counts c) ∙ intersection-counts (automatonOf (a .first .now)) (automatonOf (a .second .now)) in
-    let pairs : c .product-counts .result .states ≡ a .a .states * a .b .states = ap (λ (d : Counts). d .states) e ∙ ap₂ (λ (m n : ℕ). m * n) (la .1) (lb .1) in
+    let pairs : c .product-counts2 .result .states ≡ a .a .states * a .b .states = ap (λ (d : Counts). d .states) e ∙ ap₂ (λ (m n : ℕ). m * n) (la .1) (lb .1) in
     (omega (arith, ap (λ (d : Counts). d .letters) e, ra .letters), omega (arith, mul-le-mul-left (a .a .states) (rb .states), ra .states), c .before .before .count-arcs .ensures .2)
 
 -- the answer
-answered : (c : tie.After-decide) → let s = c .before .before .before .before .before .before .before .before .before .before in c .decide .result ≡ writtenOf (joined s) (length (s .args .out .now))
+answered : (c : tie.After-decide) → let s = begun (c .before .before .before .before .before .before) in c .decide .result ≡ writtenOf (joined s) (length (s .args .out .now))
 answered c =
     let u = c .before .before .before .before in
     let count = u .before .before in
-    let s = u .before .before .before .before .before .before in
+    let s = begun count in
     let t = count .count-arcs .ensures .0 in
-    let r = u .product-counts .result in
+    let r = u .product-counts2 .result in
     let n = counts u in
     c .decide .ensures
-    ∙ decided-written (joined s) (length (s .args .out .now)) r (12 + r .letters + r .states + count .count-arcs .result .size) (none-many (joined s .arcs) (sym (t .many) ∙ u .before .if1 .left)) n
+    ∙ decided-written (joined s) (length (s .args .out .now)) r (12 + r .letters + r .states + count .count-arcs .result .size) (none-many (joined s .arcs) (sym (t .many) ∙ u .before .if2 .left)) n
     (omega (arith, bytes-length (joined s), ap (λ (d : Counts). d .letters) n, ap (λ (d : Counts). d .states) n, t .size))
 
--- src/lib.rt:97:9
+-- src/lib.rt:100:18
+product-counts-requires : tie.Need-product-counts-requires
+product-counts-requires c κs =
+    let v = c .before .before .before .pre in
+    (valid-ranges _ _ (v .first), valid-ranges _ _ (v .second))
+
+-- src/lib.rt:100:8
+is-beyond-requires : tie.Need-is-beyond-requires
+is-beyond-requires c κs = search needs
+
+-- src/lib.rt:101:9
+returns : tie.Need-returns
+returns c =
+    let n = c .before .before in
+    let s = n .before .before .before .before in
+    let e = n .product-counts .ensures (automatonOf (s .args .first .now)) (automatonOf (s .args .second .now)) (valid-sizes _ _ (s .pre .first)) (valid-sizes _ _ (s .pre .second)) in
+    (sym (large-refused (joined s) (length (s .args .out .now)) (ap manyCounts e ∙ sym (c .before .is-beyond .ensures) ∙ c .if1 .taken)), refl)
+
+-- src/lib.rt:103:9
 count-arcs-requires : tie.Need-count-arcs-requires
 count-arcs-requires c κs = search needs
 
--- src/lib.rt:99:9
-returns : tie.Need-returns
-returns c =
+-- src/lib.rt:105:9
+returns-2 : tie.Need-returns-2
+returns-2 c =
     let count = c .before in
-    let s = count .before .before .before .before in
-    (sym (many-refused (joined s) (length (s .args .out .now)) (sym (count .count-arcs .ensures .0 .many) ∙ c .if1 .taken)), refl)
+    let s = begun count in
+    (sym (many-refused (joined s) (length (s .args .out .now)) (sym (count .count-arcs .ensures .0 .many) ∙ c .if2 .taken)), refl)
 
--- src/lib.rt:101:9
-product-counts-requires : tie.Need-product-counts-requires
-product-counts-requires c κs =
-    let v = c .before .before .before .before .before .pre in
+-- src/lib.rt:107:9
+product-counts-requires-2 : tie.Need-product-counts-requires-2
+product-counts-requires-2 c κs =
+    let v = begun (c .before) .pre in
     (valid-ranges _ _ (v .first), valid-ranges _ _ (v .second))
 
--- src/lib.rt:102:16
+-- src/lib.rt:108:16
 add-size : tie.Need-add-size
 add-size c = omega (arith, small (c .before))
 
--- src/lib.rt:102:16
+-- src/lib.rt:108:16
 add-size-2 : tie.Need-add-size-2
 add-size-2 c = omega (arith, small (c .before .before))
 
--- src/lib.rt:102:16
+-- src/lib.rt:108:16
 add-size-3 : tie.Need-add-size-3
 add-size-3 c = omega (arith, small (c .before .before .before))
 
--- src/lib.rt:103:9
+-- src/lib.rt:109:9
 decide-requires : tie.Need-decide-requires
 decide-requires c κs = search needs
 
 enum-told : tie.Need-enum-told
 enum-told c = search needs
 
--- src/lib.rt:105:9
+-- src/lib.rt:111:9
 enum-told-2 : tie.Need-enum-told-2
 enum-told-2 c = search needs
 
--- src/lib.rt:105:9
-returns-2 : tie.Need-returns-2
-returns-2 c = (answered (c .before .before), rw (c .enum-told2 .given .1))
+-- src/lib.rt:111:9
+returns-3 : tie.Need-returns-3
+returns-3 c = (answered (c .before .before), rw (c .enum-told2 .given .1))
 
--- src/lib.rt:107:5
+-- src/lib.rt:113:5
 write-product-requires : tie.Need-write-product-requires
 write-product-requires c κs =
     let d = c .before .before .before in
     let u = d .before .before .before .before in
-    let s = u .before .before .before .before .before .before in
+    let s = begun (u .before .before) in
     let v = s .pre in
     let w = written-bytes (joined s) (length (s .args .out .now)) (sym (answered d) ∙ c .before .enum-told .given .1) in
     (v, counts u, intersection-fits _ _ (valid-fits _ _ (v .first)) (valid-fits _ _ (v .second)) (v .shared) (w .within), w .room)
 
--- src/lib.rt:92:1
+-- src/lib.rt:95:1
 same-length : tie.Need-same-length
 same-length c = search needs
 
--- src/lib.rt:92:1
-returns-3 : tie.Need-returns-3
-returns-3 c =
+-- src/lib.rt:95:1
+returns-4 : tie.Need-returns-4
+returns-4 c =
     let w = c .before .before in
     let told = w .before .before in
     (answered (told .before .before), rw (told .enum-told .given .1) (file-written (w .write-product .ensures)))
@@ -130,16 +154,19 @@ pub product-spec : {M : Type 1} → statement M
 product-spec =
     tie.close
     (tie.spec
-    count-arcs-requires
-    returns
     product-counts-requires
+    is-beyond-requires
+    returns
+    count-arcs-requires
+    returns-2
+    product-counts-requires-2
     add-size
     add-size-2
     add-size-3
     decide-requires
     enum-told
     enum-told-2
-    returns-2
+    returns-3
     write-product-requires
     same-length
-    returns-3)
+    returns-4)

@@ -1,6 +1,8 @@
+use mathlib.Core.Path.{ap}
 use native.Mathlib.Omega.{arith}
 use native.Mathlib.Nat.{mul-le-mul-left}
 use borrow.Author.Needs.{needs}
+use Rattle.intersection.specs.Pairing.{withArcs}
 use Rattle.intersection.proofs.IntersectionBytes.{intersection-counts}
 use Rattle.intersection.proofs.product_counts.Statement.{statement}
 use Rattle.intersection.proofs.product_counts.Tie as tie
@@ -28,7 +30,7 @@ larger-requires c κs = search needs
 
 -- src/lib.rt:31:1
 returns : tie.Need-returns
-returns c = λ x y p q e. rw (c .larger .ensures, ← p, ← q, ← e) (intersection-counts x y)
+returns c = λ x y p q. rw (c .larger .ensures, ← p, ← q) (ap (withArcs (c .before .before .before .before .before .args .arcs)) (intersection-counts x y))
 
 pub product-counts-spec : {M : Type 1} → statement M
 product-counts-spec = tie.close (tie.spec mul-t4 add-t5 sub-t6 larger-requires returns)
