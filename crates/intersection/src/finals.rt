@@ -11,7 +11,7 @@ ghost use Rattle.format.specs.Encoding.{flagByte};
 ghost use Rattle.writing.specs.Placing.{Appended};
 use format::Counts;
 use format::fields::byte;
-use joining::front::write_flags;
+use joining::flags::write_flags;
 use writing::parts::write_zeros;
 
 // For each state of the first file, the flags of the second where it is final, else 00 as often. Cost: the pairs of states.

@@ -20,9 +20,9 @@ use format::Counts;
 use joining::answer::decide;
 use joining::answer::is_beyond;
 use joining::answer::larger;
-use joining::front::write_front;
 use joint::write_joint_arcs;
 use writing::Written;
+use writing::front::write_front;
 
 mod beside;
 mod counting;

@@ -17,11 +17,11 @@ use joining::answer::arcs_size;
 use joining::answer::decide;
 use joining::finals::count_finals;
 use joining::finals::write_final_arcs;
-use joining::front::write_flags;
-use joining::front::write_front;
+use joining::flags::write_flags;
 use joining::groups::write_entry;
 use joining::groups::write_moved_arcs;
 use writing::Written;
+use writing::front::write_front;
 use writing::parts::write_byte;
 
 // The counts of the closure of an automaton with these counts and this number of final states.

@@ -17,10 +17,10 @@ use joining::answer::decide;
 use joining::answer::larger;
 use joining::finals::count_finals;
 use joining::finals::write_final_arcs;
-use joining::front::write_flags;
-use joining::front::write_front;
+use joining::flags::write_flags;
 use joining::groups::write_moved_arcs;
 use writing::Written;
+use writing::front::write_front;
 use writing::parts::write_zeros;
 
 // The counts of the concatenation of automata with these counts, the first with this number of final states.

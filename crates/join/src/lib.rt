@@ -51,7 +51,7 @@ pub fn concatenate(first: &[u8], second: &[u8], out: &mut [u8]) -> Written
 // Writes an automaton that accepts the words of both: its states are the pairs of theirs, and it has the registers of both.
 // Refuses, in this order: 1 to 9, the first file's fault; 1 to 9, the second's; 10, the letter lists differ; 11, the joined
 // automaton beyond a limit on states, registers, arcs or operations of an arc; 25, the output shorter than the result.
-// Cost: one pass over each file to read it, one over the pairs of their arcs to count, and one over those pairs to write.
+// Cost: one pass over each file to read it, one over the pairs of arcs to count (none where states or registers are too many), one to write.
 pub fn intersect(first: &[u8], second: &[u8], out: &mut [u8]) -> Written
     ensures answer { λ r. ⌜ r ≡ joinedOf intersection (now (first .entry)) (now (second .entry)) (length (now (out .entry))) ⌝ }
     ensures output { λ r. ⌜ now (out .exit) ≡ outputOf r (bytesOf (intersection (automatonOf (now (first .entry))) (automatonOf (now (second .entry))))) (now (out .entry)) ⌝ }

@@ -14,11 +14,11 @@ use format::Counts;
 use joining::answer::arcs_size;
 use joining::answer::decide;
 use joining::answer::larger;
-use joining::front::write_flags;
-use joining::front::write_front;
+use joining::flags::write_flags;
 use joining::groups::write_entry;
 use joining::groups::write_moved_arcs;
 use writing::Written;
+use writing::front::write_front;
 use writing::parts::write_byte;
 
 // The counts of the union of automata with these counts.

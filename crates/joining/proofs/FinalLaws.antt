@@ -2,26 +2,25 @@
 use mathlib.Core.Path.{_∙_, _≡_, ap, sym}
 use mathlib.Core.Logic.{_≢_}
 use mathlib.Core.Bool.{Bool, false, true}
-use mathlib.Core.List.{List, [], _∷_, map, _++_}
+use mathlib.Core.List.{List, [], _∷_, map}
 use mathlib.Core.Option.{none}
 use Prim.Native.Nat.{_+_, _-_, _<_, _≤_, ℕ, suc}
 use native.Mathlib.Numerals.{add-one}
 use native.Mathlib.Omega.{arith}
 use borrow.Author.Tests.{eq-eqb, ne-eqb}
-use lib.ListN.{drop, drop-of-length-le, getD, length, take, length-map, length-append}
+use lib.ListN.{drop, drop-of-length-le, getD, length, take, length-map}
 use lib.Seq.{drop-cons}
 use Rattle.automata.specs.Automaton.{Automaton, Arc}
 use Rattle.automata.specs.Joins.{finalStates, arcFrom, clearing}
 use Rattle.format.specs.declared.Counts.{Counts}
 use Rattle.format.specs.declared.Reading.the-variants.{Valid}
 use Rattle.format.specs.Decoding.{automatonOf, decoded, isFinal}
-use Rattle.format.specs.Encoding.{flagByte, headerBytes}
+use Rattle.format.specs.Encoding.{flagByte}
 use Rattle.format.specs.Reading.{flagBytes, readingOf}
 use Rattle.file_laws.proofs.ValidLaws.{file-seen, valid-decoded, valid-sizes}
 use Rattle.file_laws.proofs.CanonicalLaws.{flags-same}
 use Rattle.writing.specs.Placing.{Appended}
 use Rattle.writing.proofs.Placed.{appended-length}
-use Rattle.writing.proofs.FileParts.{header-length}
 
 -- an arc from state number i, moved by s, to t, which writes 0 to the registers 1 to n - 1
 abbrev pub returning : ℕ → ℕ → ℕ → ℕ → Arc
@@ -63,10 +62,7 @@ module _ (s : List ℕ) (c : Counts) (e : readingOf s ≡ Valid c) where
       let f = ap (λ (d : Counts). d .states) n in
       (ap (λ (d : Counts). d .letters) n, f, length-map (automatonOf s .finals) flagByte ∙ f)
 
-  -- where they end in an output
-  pub front-ends : (d : Counts) {old out : List ℕ} {next : ℕ} → Appended 0 (headerBytes d ++ automatonOf s .alphabet) old out next → (next ≡ 12 + c .letters) × (length out ≡ length old)
-  front-ends d w = (omega (arith, w .behind, length-append (headerBytes d) (automatonOf s .alphabet), header-length d, valid-lengths .0), appended-length w)
-
+  -- where the flags end in an output
   pub flags-end : {at next : ℕ} {old out : List ℕ} → Appended at (map flagByte (automatonOf s .finals)) old out next → (next ≡ at + c .states) × (length out ≡ length old)
   flags-end w = (omega (arith, w .behind, valid-lengths .2), appended-length w)
 

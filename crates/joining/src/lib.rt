@@ -4,5 +4,5 @@
 pub mod answer;
 pub mod files;
 pub mod finals;
-pub mod front;
+pub mod flags;
 pub mod groups;

@@ -9,7 +9,7 @@ use native.Mathlib.Decide.{decLt}
 use native.Mathlib.Omega.{arith}
 use borrow.Author.Tests.{le-ltb, lt-ltb}
 use lib.Dec.{ltb}
-use lib.ListN.{drop, getElem?, length, length-append, length-map}
+use lib.ListN.{drop, getElem?, length, length-map}
 use Rattle.automata.specs.Automaton.{Automaton, Configuration, WellFormed, letters, states}
 use Rattle.automata.specs.Lists.{Each}
 use Rattle.automata.specs.Unfolding.{asArc, configurations, finalSet, plainArcs, unfolded}
@@ -28,9 +28,6 @@ use Rattle.sets.proofs.Laws.{length-view}
 use Rattle.table.specs.Finals.{flagPlace, isFinalIn, stateIn}
 use Rattle.stepping.specs.Stepping.{Starts}
 use Rattle.table.proofs.FinalLaws.{configurations-states, final-view, flag-inside}
-use Rattle.writing.specs.Placing.{Appended}
-use Rattle.writing.proofs.FileParts.{header-length}
-use Rattle.writing.proofs.Placed.{appended-length}
 use Rattle.unfold.specs.Listed.{arcsOfMany, plainCounts}
 use Rattle.unfold.proofs.Listing.{arcs-listed, starts-listed}
 use Rattle.unfold.proofs.PlainFits.{some-configuration}
@@ -76,10 +73,6 @@ module _ (file : List ℕ) (c : Counts) (valid : readingOf file ≡ Valid c) whe
 
   formed : WellFormed x
   formed = valid-wellFormed file c valid
-
-  -- header and letters stand before the flags
-  pub front-ends : (d : Counts) {old out : List ℕ} {next : ℕ} → Appended 0 (headerBytes d ++ x .alphabet) old out next → (next ≡ 12 + c .letters) × (length out ≡ length old)
-  front-ends d w = (omega (arith, w .behind, length-append (headerBytes d) (x .alphabet), header-length d, letters-are), appended-length w)
 
   module _ {w : List ℕ} {base k p : ℕ} (found : Explores (automatonOf file) 256 w base (Tables k p)) where
     pub known : Known (automatonOf file) 256 k p

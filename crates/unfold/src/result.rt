@@ -1,7 +1,6 @@
 // Result: the answer once all configurations are known, and the file of the unfolded automaton.
 ghost use mathlib.Core.Path.{_≡_};
-ghost use mathlib.Core.List.{_++_};
-ghost use Prim.Native.Nat.{_+_, _≤_};
+ghost use Prim.Native.Nat.{_≤_};
 ghost use lib.ListN.{length};
 ghost use Rattle.automata.specs.Unfolding.{unfolded};
 ghost use Rattle.explore.specs.declared.Explored.the-variants.{Tables};
@@ -9,36 +8,17 @@ ghost use Rattle.explore.specs.Explores.{Explores};
 ghost use Rattle.explore.specs.Map.{Placed};
 ghost use Rattle.format.specs.declared.Reading.the-variants.{Valid};
 ghost use Rattle.format.specs.Decoding.{automatonOf};
-ghost use Rattle.format.specs.Encoding.{bytesOf, headerBytes};
+ghost use Rattle.format.specs.Encoding.{bytesOf};
 ghost use Rattle.format.specs.Reading.{readingOf};
 ghost use Rattle.writing.specs.Answers.{outputOf};
 ghost use Rattle.writing.specs.Placing.{Appended};
-ghost use Rattle.unfold.specs.Listed.{plainCounts};
 ghost use Rattle.unfold.specs.Unfolding.{resultOf};
 use super::arcs::write_arcs;
 use super::flags::write_flags;
 use format::Counts;
 use table::finals::final_set;
 use writing::Written;
-use writing::parts::write_copy;
-use writing::parts::write_header;
-
-// The header of the unfolded automaton and the letters of the file, which has the counts c. Cost: the letters.
-fn write_front(out: &mut [u8], file: &[u8], c: Counts, known: usize, plain: usize) -> usize
-    requires { ⌜ (readingOf (now file) ≡ Valid c) × (1 ≤ known) × (known ≤ 256) × (plain ≤ 2048) × (12 + c .letters ≤ length (now out)) ⌝ }
-    ensures { λ r. ⌜ Appended 0 (headerBytes (plainCounts (c .letters) known plain) ++ automatonOf (now (file .entry)) .alphabet) (now (out .entry)) (now (out .exit)) r ⌝ }
-{
-    let counts = Counts {
-        letters: c.letters,
-        states: known,
-        registers: 1,
-        symbols: 1,
-        arcs: plain,
-    };
-    let at = write_header(out, 0, counts);
-    let end = 12 + c.letters;
-    write_copy(out, at, &file[12..end])
-}
+use writing::front::write_front;
 
 // The whole file: header, letters, a flag for each configuration, the plain arcs. Cost: its bytes.
 fn write_file(
@@ -54,7 +34,14 @@ fn write_file(
     requires { ⌜ (plain ≤ 2048) × (length (bytesOf (unfolded (automatonOf (now file)) 256)) ≤ length (now out)) ⌝ }
     ensures { λ r. ⌜ Appended 0 (bytesOf (unfolded (automatonOf (now (file .entry))) 256)) (now (out .entry)) (now (out .exit)) r ⌝ }
 {
-    let flags = write_front(out, file, c, known, plain);
+    let counts = Counts {
+        letters: c.letters,
+        states: known,
+        registers: 1,
+        symbols: 1,
+        arcs: plain,
+    };
+    let flags = write_front(out, counts, c, file);
     let finals = final_set(file, c, w, known);
     let arcs = write_flags(out, flags, finals, known);
     write_arcs(out, arcs, w, base, known, plain)

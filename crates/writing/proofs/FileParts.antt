@@ -3,15 +3,16 @@ use mathlib.Core.Path.{_∙_, _≡_, ap, refl, sym}
 use mathlib.Core.List.{List, [], _++_, _∷_, append-assoc, map}
 use Prim.Native.Nat.{_+_, _-_, ℕ}
 use native.Mathlib.Omega.{arith}
-use lib.ListN.{drop, length, take}
+use lib.ListN.{drop, length, length-append, take}
 use Rattle.automata.specs.Automaton.{Arc, Automaton}
 use Rattle.format.specs.declared.Counts.{Counts}
 use Rattle.format.specs.declared.Reading.the-variants.{Valid}
 use Rattle.format.specs.Decoding.{automatonOf, decoded}
 use Rattle.format.specs.Encoding.{arcBytes, arcsBytes, bytesOf, flagByte, headerBytes, sizes}
 use Rattle.format.specs.Reading.{letterBytes, readingOf}
-use Rattle.file_laws.proofs.ValidLaws.{valid-decoded}
+use Rattle.file_laws.proofs.ValidLaws.{valid-decoded, valid-sizes}
 use Rattle.writing.specs.Placing.{Appended}
+use Rattle.writing.proofs.Placed.{appended-length}
 
 pub header-length : (c : Counts) → length (headerBytes c) ≡ 12
 unfolding headerBytes
@@ -24,6 +25,10 @@ valid-alphabet s c e = ap (λ (x : Automaton). x .alphabet) (valid-decoded s c e
 
 pub lent-letters : (c : Counts) (s : List ℕ) → take (12 + c .letters - 12) (drop 12 s) ≡ letterBytes c s
 lent-letters c s = let e : 12 + c .letters - 12 ≡ c .letters = omega arith in rw e
+
+-- header and letters stand before the flags
+pub front-ends : (s : List ℕ) (c : Counts) → readingOf s ≡ Valid c → (d : Counts) {old out : List ℕ} {next : ℕ} → Appended 0 (headerBytes d ++ automatonOf s .alphabet) old out next → (next ≡ 12 + c .letters) × (length out ≡ length old)
+front-ends s c e d w = (omega (arith, w .behind, length-append (headerBytes d) (automatonOf s .alphabet), header-length d, ap (λ (n : Counts). n .letters) (valid-sizes s c e)), appended-length w)
 
 pub arcs-append : (l r : List Arc) → arcsBytes (l ++ r) ≡ arcsBytes l ++ arcsBytes r
 unfolding arcsBytes

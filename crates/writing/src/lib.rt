@@ -2,6 +2,7 @@
 // Each writer puts its bytes at a place, leaves all else as it was, and answers the place behind them.
 
 pub mod arcs;
+pub mod front;
 pub mod parts;
 
 // What a call that writes a file answers: its length in bytes, or the refusal's number and the automaton at fault.

@@ -10,8 +10,8 @@ use Rattle.format.specs.Decoding.{automatonOf}
 use Rattle.format.specs.Encoding.{arcsBytes, flagByte, bytesOf, headerBytes}
 use Rattle.format.specs.Limits.{Ranges}
 use Rattle.writing.proofs.Placed.{written-then, appended-ends}
-use Rattle.writing.proofs.FileParts.{header-length}
-use Rattle.joining.proofs.FinalLaws.{valid-lengths, front-ends}
+use Rattle.writing.proofs.FileParts.{front-ends, header-length}
+use Rattle.joining.proofs.FinalLaws.{valid-lengths}
 use Rattle.intersection.proofs.FlagLaws.{flags-length}
 use Rattle.intersection.proofs.IntersectionBytes.{intersection-parts, intersection-counts}
 use Rattle.intersection.proofs.write_product.Statement.{statement}
@@ -20,7 +20,7 @@ use Rattle.intersection.proofs.write_product.Reads as reads
 use Rattle.intersection.proofs.write_product.Lts as lts
 use Rattle.intersection.proofs.finals.write_both_flags.Reads as write-both-flags-reads
 use Rattle.intersection.proofs.write_product_arcs.Reads as write-product-arcs-reads
-use Rattle.joining.proofs.front.write_front.Reads as write-front-reads
+use Rattle.writing.proofs.front.write_front.Reads as write-front-reads
 
 -- the parts, and room for them
 abbrev parts : (s : tie.Start) → let x = automatonOf (s .args .first .now) in let y = automatonOf (s .args .second .now) in

@@ -18,7 +18,7 @@ use Rattle.intersection.proofs.finals.write_both_flags.Tie as tie
 use Rattle.intersection.proofs.finals.write_both_flags.Reads as reads
 use Rattle.intersection.proofs.finals.write_both_flags.Lts as lts
 use Rattle.format.proofs.fields.byte.Reads as byte-reads
-use Rattle.joining.proofs.front.write_flags.Reads as write-flags-reads
+use Rattle.joining.proofs.flags.write_flags.Reads as write-flags-reads
 use Rattle.writing.proofs.parts.write_zeros.Reads as write-zeros-reads
 
 abbrev Inv-loop : tie.InvT-loop

@@ -13,15 +13,15 @@ use Rattle.format.specs.Decoding.{automatonOf}
 use Rattle.writing.proofs.Placed.{appended-ends, written-then}
 use Rattle.join.proofs.closures.write_closure.Statement.{statement}
 use Rattle.join.proofs.JoinedBytes.{closure-counts, closure-parts}
-use Rattle.joining.proofs.FinalLaws.{flags-end, front-ends, valid-lengths}
+use Rattle.joining.proofs.FinalLaws.{flags-end, valid-lengths}
 use Rattle.join.proofs.closures.write_closure.Tie as tie
 use Rattle.join.proofs.closures.write_closure.Reads as reads
 use Rattle.join.proofs.closures.write_closure.Lts as lts
 use Rattle.join.proofs.closures.write_closure_arcs.Reads as write-closure-arcs-reads
-use Rattle.joining.proofs.front.write_flags.Reads as write-flags-reads
-use Rattle.joining.proofs.front.write_front.Reads as write-front-reads
+use Rattle.joining.proofs.flags.write_flags.Reads as write-flags-reads
+use Rattle.writing.proofs.front.write_front.Reads as write-front-reads
 use Rattle.writing.proofs.parts.write_byte.Reads as write-byte-reads
-use Rattle.writing.proofs.FileParts.{header-length}
+use Rattle.writing.proofs.FileParts.{front-ends, header-length}
 
 -- the parts, and room for them
 abbrev parts : (s : tie.Start) → let x = automatonOf (s .args .file .now) in

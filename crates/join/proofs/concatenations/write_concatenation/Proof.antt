@@ -12,17 +12,17 @@ use Rattle.format.specs.Encoding.{arcsBytes, bytesOf, flagByte, headerBytes}
 use Rattle.format.specs.Decoding.{automatonOf}
 use Rattle.writing.specs.Placing.{Appended}
 use Rattle.writing.proofs.Placed.{appended-length, written-then}
-use Rattle.joining.proofs.FinalLaws.{flags-end, front-ends, valid-lengths}
+use Rattle.joining.proofs.FinalLaws.{flags-end, valid-lengths}
 use Rattle.join.proofs.concatenations.write_concatenation.Statement.{statement}
 use Rattle.join.proofs.ConcatenationBytes.{concatenation-counts, concatenation-parts}
 use Rattle.join.proofs.concatenations.write_concatenation.Tie as tie
 use Rattle.join.proofs.concatenations.write_concatenation.Reads as reads
 use Rattle.join.proofs.concatenations.write_concatenation.Lts as lts
 use Rattle.join.proofs.concatenations.write_concatenation_arcs.Reads as write-concatenation-arcs-reads
-use Rattle.joining.proofs.front.write_flags.Reads as write-flags-reads
-use Rattle.joining.proofs.front.write_front.Reads as write-front-reads
+use Rattle.joining.proofs.flags.write_flags.Reads as write-flags-reads
+use Rattle.writing.proofs.front.write_front.Reads as write-front-reads
 use Rattle.writing.proofs.parts.write_zeros.Reads as write-zeros-reads
-use Rattle.writing.proofs.FileParts.{header-length}
+use Rattle.writing.proofs.FileParts.{front-ends, header-length}
 
 -- the parts, and room for them
 abbrev parts : (s : tie.Start) → let x = automatonOf (s .args .first .now) in let y = automatonOf (s .args .second .now) in

@@ -13,15 +13,15 @@ use Rattle.format.specs.Decoding.{automatonOf}
 use Rattle.writing.proofs.Placed.{appended-ends, written-then}
 use Rattle.join.proofs.unions.write_union.Statement.{statement}
 use Rattle.join.proofs.JoinedBytes.{union-parts, union-counts}
-use Rattle.joining.proofs.FinalLaws.{valid-lengths, flags-end, front-ends}
+use Rattle.joining.proofs.FinalLaws.{valid-lengths, flags-end}
 use Rattle.join.proofs.unions.write_union.Tie as tie
 use Rattle.join.proofs.unions.write_union.Reads as reads
 use Rattle.join.proofs.unions.write_union.Lts as lts
-use Rattle.joining.proofs.front.write_flags.Reads as write-flags-reads
-use Rattle.joining.proofs.front.write_front.Reads as write-front-reads
+use Rattle.joining.proofs.flags.write_flags.Reads as write-flags-reads
+use Rattle.writing.proofs.front.write_front.Reads as write-front-reads
 use Rattle.join.proofs.unions.write_union_arcs.Reads as write-union-arcs-reads
 use Rattle.writing.proofs.parts.write_byte.Reads as write-byte-reads
-use Rattle.writing.proofs.FileParts.{header-length}
+use Rattle.writing.proofs.FileParts.{front-ends, header-length}
 
 -- the parts, and room for them
 abbrev parts : (s : tie.Start) → let x = automatonOf (s .args .first .now) in let y = automatonOf (s .args .second .now) in

@@ -4,9 +4,10 @@ use native.Mathlib.Omega.{arith}
 use borrow.Author.Needs.{needs}
 use lib.ListN.{length}
 use Rattle.file_laws.proofs.ValidLaws.{valid-ranges}
+use Rattle.writing.proofs.FileParts.{front-ends}
 use Rattle.writing.proofs.Placed.{appended-length, written-then}
 use Rattle.unfold.specs.Listed.{plainCounts}
-use Rattle.unfold.proofs.Explored.{arcs-length, flags-size, flags-there, front-ends, known, result-length, result-parts, some-known, starts-are}
+use Rattle.unfold.proofs.Explored.{arcs-length, flags-size, flags-there, known, result-length, result-parts, some-known, starts-are}
 use Rattle.unfold.proofs.result.write_file.Statement.{statement}
 use Rattle.unfold.proofs.result.write_file.Tie as tie
 
@@ -17,8 +18,20 @@ room s = let p = s .pre in omega (arith, result-length _ _ (p .0 .0) (p .0 .2), 
 write-front-requires : tie.Need-write-front-requires
 write-front-requires c κs =
     let s = c .before .before .before .before in
-    let p = s .pre in
-    (p .0 .0, some-known _ _ (p .0 .0) (p .0 .2), known _ _ (p .0 .0) (p .0 .2) .few, p .1 .0, omega (arith, room s))
+    let p = s .pre in (
+      record {
+        letters = valid-ranges _ _ (p .0 .0) .letters;
+        some-state = some-known _ _ (p .0 .0) (p .0 .2);
+        states = known _ _ (p .0 .0) (p .0 .2) .few;
+        some-register = omega arith;
+        registers = omega arith;
+        some-symbol = omega arith;
+        symbols = omega arith;
+        arcs = p .1 .0;
+      },
+      p .0 .0,
+      omega (arith, room s),
+    )
 
 final-set-requires : tie.Need-final-set-requires
 final-set-requires c κs =

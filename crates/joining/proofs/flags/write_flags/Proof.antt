@@ -1,44 +1,44 @@
 use native.Mathlib.Omega.{arith}
 use borrow.Author.Needs.{needs}
 use Rattle.file_laws.proofs.ValidLaws.{file-seen, valid-ranges}
-use Rattle.joining.proofs.front.write_flags.Statement.{statement}
+use Rattle.joining.proofs.flags.write_flags.Statement.{statement}
 use Rattle.joining.proofs.FinalLaws.{lent-flags, valid-flags}
-use Rattle.joining.proofs.front.write_flags.Tie as tie
-use Rattle.joining.proofs.front.write_flags.Reads as reads
-use Rattle.joining.proofs.front.write_flags.Lts as lts
+use Rattle.joining.proofs.flags.write_flags.Tie as tie
+use Rattle.joining.proofs.flags.write_flags.Reads as reads
+use Rattle.joining.proofs.flags.write_flags.Lts as lts
 use Rattle.writing.proofs.parts.write_copy.Reads as write-copy-reads
 
--- src/front.rt:31:17
+-- src/flags.rt:19:17
 add-flags : tie.Need-add-flags
 add-flags c = omega (arith, valid-ranges _ _ (c .before .before .before .pre .0) .letters)
 
--- src/front.rt:32:15
+-- src/flags.rt:20:15
 add-end : tie.Need-add-end
 add-end c =
     let r = valid-ranges _ _ (c .before .before .before .before .pre .0) in
     omega (arith, r .letters, r .states)
 
--- src/front.rt:33:25
+-- src/flags.rt:21:25
 sub-write-copy : tie.Need-sub-write-copy
 sub-write-copy c = search needs
 
--- src/front.rt:33:25
+-- src/flags.rt:21:25
 part-write-copy-start : tie.Need-part-write-copy-start
 part-write-copy-start c = search needs
 
--- src/front.rt:33:25
+-- src/flags.rt:21:25
 part-write-copy-end : tie.Need-part-write-copy-end
 part-write-copy-end c = omega (arith, file-seen _ _ (c .before .before .before .before .before .pre .0) .there)
 
--- src/front.rt:33:5
+-- src/flags.rt:21:5
 write-copy-requires : tie.Need-write-copy-requires
 write-copy-requires c κs = search needs
 
--- src/front.rt:27:1
+-- src/flags.rt:15:1
 same-length : tie.Need-same-length
 same-length c = search needs
 
--- src/front.rt:27:1
+-- src/flags.rt:15:1
 returns : tie.Need-returns
 returns c =
     let s = c .before .before .before .before .before .before .before .before .before in

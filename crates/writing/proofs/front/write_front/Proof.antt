@@ -2,14 +2,14 @@ use native.Mathlib.Omega.{arith}
 use borrow.Author.Needs.{needs}
 use lib.ListN.{length-drop, length-take}
 use Rattle.file_laws.proofs.ValidLaws.{file-seen}
 use Rattle.writing.proofs.Placed.{appended-length, written-then}
-use Rattle.joining.proofs.front.write_front.Statement.{statement}
-use Rattle.joining.proofs.front.write_front.Tie as tie
-use Rattle.joining.proofs.front.write_front.Reads as reads
-use Rattle.joining.proofs.front.write_front.Lts as lts
+use Rattle.writing.proofs.front.write_front.Statement.{statement}
+use Rattle.writing.proofs.front.write_front.Tie as tie
+use Rattle.writing.proofs.front.write_front.Reads as reads
+use Rattle.writing.proofs.front.write_front.Lts as lts
 use Rattle.writing.proofs.parts.write_copy.Reads as write-copy-reads
 use Rattle.writing.proofs.parts.write_header.Reads as write-header-reads
 use Rattle.writing.proofs.FileParts.{header-length, lent-letters, valid-alphabet}
 
 -- src/front.rt:21:9
 write-header-requires : tie.Need-write-header-requires
