@@ -6,7 +6,6 @@ use lib.ListN.{length}
 use Rattle.file_laws.proofs.ValidLaws.{valid-ranges}
 use Rattle.writing.proofs.FileParts.{front-ends}
 use Rattle.writing.proofs.Placed.{appended-length, written-then}
-use Rattle.unfold.specs.Listed.{plainCounts}
 use Rattle.unfold.proofs.Explored.{arcs-length, flags-size, flags-there, known, result-length, result-parts, some-known, starts-are}
 use Rattle.unfold.proofs.result.write_file.Statement.{statement}
 use Rattle.unfold.proofs.result.write_file.Tie as tie
@@ -18,16 +17,19 @@ room s = let p = s .pre in omega (arith, result-length _ _ (p .0 .0) (p .0 .2), 
 write-front-requires : tie.Need-write-front-requires
 write-front-requires c κs =
     let s = c .before .before .before .before in
-    let p = s .pre in (
+    let p = s .pre in
+    let r = valid-ranges _ _ (p .0 .0) in
+    let n = some-known _ _ (p .0 .0) (p .0 .2) in
+    let k = known _ _ (p .0 .0) (p .0 .2) .few in (
       record {
-        letters = valid-ranges _ _ (p .0 .0) .letters;
-        some-state = some-known _ _ (p .0 .0) (p .0 .2);
-        states = known _ _ (p .0 .0) (p .0 .2) .few;
+        letters = omega arith;
+        some-state = omega arith;
+        states = omega arith;
         some-register = omega arith;
         registers = omega arith;
         some-symbol = omega arith;
         symbols = omega arith;
-        arcs = p .1 .0;
+        arcs = omega arith;
       },
       p .0 .0,
       omega (arith, room s),
@@ -45,7 +47,7 @@ write-flags-requires c κs =
     let front = c .before .before .before .before in
     let s = front .before .before .before .before .before in
     let p = s .pre in
-    (known _ _ (p .0 .0) (p .0 .2) .few, omega (arith, room s, front-ends _ _ (p .0 .0) (plainCounts (s .args .c .letters) (s .args .known) (s .args .plain)) (front .write-front .ensures)))
+    (known _ _ (p .0 .0) (p .0 .2) .few, omega (arith, room s, front-ends _ _ (p .0 .0) _ (front .write-front .ensures)))
 
 write-arcs-requires : tie.Need-write-arcs-requires
 write-arcs-requires c κs =
@@ -57,7 +59,7 @@ write-arcs-requires c κs =
     let at = flags .write-flags .ensures .behind in (
       starts-are _ _ (p .0 .0) (p .0 .2) (p .1 .0),
       p .0 .1 .block,
-      omega (arith, room s, front-ends _ _ (p .0 .0) (plainCounts (s .args .c .letters) (s .args .known) (s .args .plain)) (front .write-front .ensures), at, flags-size (s .args .known) (set .final-set .result), appended-length (flags .write-flags .ensures), arcs-length _ _ (p .0 .0) (p .0 .2) (p .1 .0)),
+      omega (arith, room s, front-ends _ _ (p .0 .0) _ (front .write-front .ensures), at, flags-size (s .args .known) (set .final-set .result), appended-length (flags .write-flags .ensures), arcs-length _ _ (p .0 .0) (p .0 .2) (p .1 .0)),
     )
 
 returns : tie.Need-returns
