@@ -46,26 +46,45 @@ extern "C" {
 
 /* Why a call was refused. */
 enum ra_refusal {
-    /* the file */
-    RA_ENDS_INSIDE_A_FIELD = 1,        /* the file ends inside a field */
-    RA_MARK = 2,                       /* the file does not begin with the mark MLB */
-    RA_VERSION = 3,                    /* the file is not of version 1 */
-    RA_HEADER_COUNT = 4,               /* a count in the header is outside its range */
-    RA_LETTERS_NOT_ASCENDING = 5,      /* the letters are not strictly ascending */
-    RA_FINAL_FLAG = 6,                 /* a final flag is neither 00 nor 01 */
-    RA_ARC_FIELD = 7,                  /* an arc has a state, a letter or a number of operations that does not exist */
-    RA_OPERATION = 8,                  /* an operation is none, or names a register or a symbol that does not exist */
-    RA_BYTES_AFTER_THE_LAST_ARC = 9,   /* there are bytes after the last arc */
-    /* two files, and what they are joined to */
-    RA_LETTER_LISTS_DIFFER = 10,       /* the two letter lists differ */
-    RA_JOINED_BEYOND_A_LIMIT = 11,     /* the joined automaton has more than 256 states, 8 registers, 2,048 arcs, or 8 operations
-                                          in an arc */
-    /* sizes */
-    RA_TOO_MANY_CONFIGURATIONS = 21,   /* more than 256 configurations can be reached */
-    RA_TOO_MANY_PLAIN_ARCS = 22,       /* there are more than 2,048 plain arcs */
-    RA_TOO_MANY_PAIRS = 23,            /* there are more than 512 pairs of live sets */
-    RA_TOO_LITTLE_MEMORY_LENT = 24,    /* fewer than RA_WORKING_WORDS words, or than RA_WORD_BYTES bytes for the word */
-    RA_OUTPUT_TOO_SHORT = 25           /* the output is shorter than the result */
+    /* of a file */
+    /* the file ends inside a field */
+    RA_ENDS_INSIDE_A_FIELD = 1,
+    /* the file does not begin with the mark MLB */
+    RA_MARK = 2,
+    /* the version is not 1 */
+    RA_VERSION = 3,
+    /* a count is out of its range: letters 0 to 64, states 1 to 256, registers 1 to 8, symbols 1 to 16, arcs 0 to 2048 */
+    RA_HEADER_COUNT = 4,
+    /* the letters do not ascend strictly */
+    RA_LETTERS_NOT_ASCENDING = 5,
+    /* a final flag is neither 00 nor 01 */
+    RA_FINAL_FLAG = 6,
+    /* an arc's state, letter or number of operations is out of its range: states and letters below their counts, or
+     * letter FF; operations 1 to 8
+     */
+    RA_ARC_FIELD = 7,
+    /* an operation is not one: kind 0 or 1, register and symbol below their counts, register 0 only with the read of
+     * symbol 0
+     */
+    RA_OPERATION = 8,
+    /* bytes follow the last arc */
+    RA_BYTES_AFTER_THE_LAST_ARC = 9,
+    /* of two files, and of what they are joined to */
+    /* the two files have different letters */
+    RA_LETTER_LISTS_DIFFER = 10,
+    /* the result would be beyond a limit: 256 states, 8 registers, 2048 arcs, 8 operations on an arc */
+    RA_JOINED_BEYOND_A_LIMIT = 11,
+    /* of sizes */
+    /* more than 256 configurations can be reached */
+    RA_TOO_MANY_CONFIGURATIONS = 21,
+    /* more than 2048 plain arcs: passing arcs, counted at each configuration */
+    RA_TOO_MANY_PLAIN_ARCS = 22,
+    /* words lead to more than 512 pairs of live sets */
+    RA_TOO_MANY_PAIRS = 23,
+    /* less working memory than 8192 words, or less room for a word than 512 bytes */
+    RA_TOO_LITTLE_MEMORY_LENT = 24,
+    /* less room than the result has bytes */
+    RA_OUTPUT_TOO_SHORT = 25
 };
 
 /* What ra_read answers: the counts in the header of a valid file. */
@@ -102,7 +121,7 @@ struct ra_comparison {
     uint8_t taker;      /* 0: the two accept the same words; 1 or 2: only this one accepts the shown word */
 };
 
-/* Is the file valid? Answers the counts in its header, or its first fault. */
+/* Is the file valid? Answers the counts in its header, or its first fault, which is always that of the one file. */
 struct ra_reading ra_read(const uint8_t *file, size_t file_length);
 
 /* Does the automaton of the file accept the word? A word with a byte that is no letter isn't accepted, and leaves no

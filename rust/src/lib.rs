@@ -25,7 +25,7 @@ pub const WORKING_WORDS: usize = 8192;
 /// How many bytes comparing asks for, for the word that it shows.
 pub const WORD_BYTES: usize = 512;
 
-/// The length of the longest file.
+/// The length of the longest valid file; an output of that size has room for every result.
 pub const LONGEST_FILE: usize = 41_292;
 
 /// Working words for any number of calls, one after the other.
@@ -66,6 +66,8 @@ pub enum Comparison {
 }
 
 /// Is the file valid? Answers its counts, or its first fault.
+///
+/// Refused: 1 to 9.
 pub fn read(file: &[u8]) -> Result<Counts, Refusal> {
     let r = unsafe { engine::ra_read(file.as_ptr(), file.len()) };
     Refusal::unless(r.number, 1)?;
@@ -79,6 +81,8 @@ pub fn read(file: &[u8]) -> Result<Counts, Refusal> {
 }
 
 /// Does the automaton of the file accept the word? A word with a byte that is no letter is rejected.
+///
+/// Refused, in this order: 24 with fewer than [`WORKING_WORDS`]; 1 to 9; 21.
 pub fn accepts(file: &[u8], word: &[u8], work: &mut [u64]) -> Result<Membership, Refusal> {
     let r = unsafe {
         engine::ra_accepts(
@@ -103,6 +107,8 @@ fn written(r: engine::Written) -> Result<usize, Refusal> {
 }
 
 /// Writes an automaton without registers that accepts the same words, and answers the length of its file.
+///
+/// Refused, in this order: 24 with fewer than [`WORKING_WORDS`]; 1 to 9; 21; 22; 25.
 pub fn unfold(file: &[u8], work: &mut [u64], out: &mut [u8]) -> Result<usize, Refusal> {
     written(unsafe {
         engine::ra_unfold(
@@ -117,6 +123,8 @@ pub fn unfold(file: &[u8], work: &mut [u64], out: &mut [u8]) -> Result<usize, Re
 }
 
 /// Writes an automaton that accepts the words of either, and answers the length of its file.
+///
+/// Refused, in this order: 1 to 9 of the first, then of the second; 10; 11; 25.
 pub fn union(first: &[u8], second: &[u8], out: &mut [u8]) -> Result<usize, Refusal> {
     written(unsafe {
         engine::ra_union(
@@ -131,6 +139,8 @@ pub fn union(first: &[u8], second: &[u8], out: &mut [u8]) -> Result<usize, Refus
 }
 
 /// Writes an automaton that accepts a word of the first followed by one of the second, and answers the length of its file.
+///
+/// Refused, in this order: 1 to 9 of the first, then of the second; 10; 11; 25.
 pub fn concatenate(first: &[u8], second: &[u8], out: &mut [u8]) -> Result<usize, Refusal> {
     written(unsafe {
         engine::ra_concatenate(
@@ -145,6 +155,8 @@ pub fn concatenate(first: &[u8], second: &[u8], out: &mut [u8]) -> Result<usize,
 }
 
 /// Writes an automaton that accepts the words that both accept, and answers the length of its file.
+///
+/// Refused, in this order: 1 to 9 of the first, then of the second; 10; 11; 25.
 pub fn intersect(first: &[u8], second: &[u8], out: &mut [u8]) -> Result<usize, Refusal> {
     written(unsafe {
         engine::ra_intersect(
@@ -159,12 +171,17 @@ pub fn intersect(first: &[u8], second: &[u8], out: &mut [u8]) -> Result<usize, R
 }
 
 /// Writes an automaton that accepts the finite sequences of words of the file's, and answers the length of its file.
+///
+/// Refused, in this order: 1 to 9; 11; 25.
 pub fn close(file: &[u8], out: &mut [u8]) -> Result<usize, Refusal> {
     written(unsafe { engine::ra_close(file.as_ptr(), file.len(), out.as_mut_ptr(), out.len()) })
 }
 
 /// Do the two accept the same words, of every length? Where they don't, a shortest word that exactly one accepts is
 /// written to the front of `word`.
+///
+/// Refused, in this order: 24 with fewer than [`WORKING_WORDS`] or a `word` of fewer than [`WORD_BYTES`]; 1 to 9 of the
+/// first, then of the second; 10; 21 and 22 of the first, then of the second; 23.
 pub fn compare(
     first: &[u8],
     second: &[u8],

@@ -72,29 +72,25 @@ impl Reason {
             .find(|reason| reason.number() == number)
     }
 
-    /// A sentence for a user.
+    /// A sentence for a user: that of the programs (crates/refusals/stdout).
     pub fn message(self) -> &'static str {
         match self {
             Reason::EndsInsideAField => "the file ends inside a field",
             Reason::Mark => "the file does not begin with the mark MLB",
-            Reason::Version => "the file is not of version 1",
-            Reason::HeaderCount => "a count in the header is outside its range",
-            Reason::LettersNotAscending => "the letters are not strictly ascending",
+            Reason::Version => "the version is not 1",
+            Reason::HeaderCount => "a count is out of its range: letters 0 to 64, states 1 to 256, registers 1 to 8, symbols 1 to 16, arcs 0 to 2048",
+            Reason::LettersNotAscending => "the letters do not ascend strictly",
             Reason::FinalFlag => "a final flag is neither 00 nor 01",
-            Reason::ArcField => {
-                "an arc has a state, a letter or a number of operations that does not exist"
-            }
-            Reason::Operation => {
-                "an operation is none, or names a register or a symbol that does not exist"
-            }
-            Reason::BytesAfterTheLastArc => "there are bytes after the last arc",
-            Reason::LetterListsDiffer => "the two letter lists differ",
-            Reason::JoinedBeyondALimit => "the joined automaton is beyond a limit",
+            Reason::ArcField => "an arc's state, letter or number of operations is out of its range: states and letters below their counts, or letter FF; operations 1 to 8",
+            Reason::Operation => "an operation is not one: kind 0 or 1, register and symbol below their counts, register 0 only with the read of symbol 0",
+            Reason::BytesAfterTheLastArc => "bytes follow the last arc",
+            Reason::LetterListsDiffer => "the two files have different letters",
+            Reason::JoinedBeyondALimit => "the result would be beyond a limit: 256 states, 8 registers, 2048 arcs, 8 operations on an arc",
             Reason::TooManyConfigurations => "more than 256 configurations can be reached",
-            Reason::TooManyPlainArcs => "there are more than 2048 plain arcs",
-            Reason::TooManyPairs => "there are more than 512 pairs of live sets",
-            Reason::TooLittleMemoryLent => "too little memory was lent",
-            Reason::OutputTooShort => "the output is shorter than the result",
+            Reason::TooManyPlainArcs => "more than 2048 plain arcs: passing arcs, counted at each configuration",
+            Reason::TooManyPairs => "words lead to more than 512 pairs of live sets",
+            Reason::TooLittleMemoryLent => "less working memory than 8192 words, or less room for a word than 512 bytes",
+            Reason::OutputTooShort => "less room than the result has bytes",
         }
     }
 }
