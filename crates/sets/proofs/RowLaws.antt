@@ -1,20 +1,21 @@
 -- RowLaws: laws of rows of four words in lent words.
 use mathlib.Core.Path.{_≡_, refl, sym, ap, _∙_}
 use mathlib.Core.Logic.{_≢_}
-use mathlib.Core.Bool.{Bool, false, _||_, or-false}
+use mathlib.Core.Bool.{Bool, false, not, _||_, or-false}
 use mathlib.Core.List.{List, [], _∷_, _++_, append-assoc}
-use Prim.Native.Nat.{ℕ, suc, _+_, _*_, _^_, _≤_, _<_}
+use Prim.Native.Nat.{ℕ, suc, _+_, _*_, _/_, _%_, _^_, _≤_, _<_}
 use native.Mathlib.Decide.{decLt}
 use native.Mathlib.Numerals.{add-one, add-two, add-three}
 use native.Mathlib.Omega.{arith}
 use lib.Dec.{eqb, lit<}
 use lib.ListN.{length, getD, take, drop, set, length-take, length-drop, List·getD-eq-default}
+use lib.Bits.{bitAnd}
 use lib.Seq.{ext-getD, getD-take, getD-drop, take-at, drop-at, length-take-le, sets, sets-eq}
 use Rattle.memory.specs.Frame.{Kept}
 use Rattle.sets.specs.Sets.{inSet}
 use Rattle.sets.specs.Rows.{row, related}
 use Rattle.memory.proofs.Laws.{kept-same, kept-then, kept-wider, kept-set}
-use Rattle.sets.proofs.SetLaws.{Four, four-words}
+use Rattle.sets.proofs.SetLaws.{Four, four-words, has-set}
 
 pub row-length : (w : List ℕ) (base i : ℕ) → base + 4 * i + 4 ≤ length w → length (row w base i) ≡ 4
 unfolding row
@@ -32,6 +33,12 @@ row-four w base i h f = record { long = row-length w base i h; fits = λ q. go q
     go : (q : ℕ) → Dec (q < 4) → getD (row w base i) q 0 < 2 ^ 64
     go q (yes l) = rw (row-at w base i q l) (f (base + 4 * i + q))
     go q (no l) = rw (List·getD-eq-default (row w base i) 0 {n = q} (omega (arith, row-length w base i h))) (lit< tt)
+
+-- one digit of one word tells whether k is in row i
+pub holds-row : (w : List ℕ) (base i k : ℕ) → k < 256
+    → not (eqb (bitAnd (getD w (base + 4 * i + k / 64) 0) (1 * 2 ^ bitAnd k 63 % 2 ^ 64)) 0) ≡ related w base i k
+unfolding related
+holds-row w base i k h = rw (← row-at w base i (k / 64) (omega arith)) (has-set (row w base i) k)
 
 -- a row that holds its own number alone, as `with(empty(), k)` makes it
 pub unit-row : (w : List ℕ) (base k : ℕ) (none : List ℕ) {unit : List ℕ} → row w base k ≡ unit → ((j : ℕ) → inSet unit j ≡ (eqb j k || inSet none j))

@@ -37,23 +37,24 @@ passed-more {base} {n} {i} {new} {w₀} {w} {w'} h c k e = record {
     go p j l (yes q) = rw q (e j)
     go p j l (no q) = ap (λ (s : List ℕ). inSet s j) (row-other base i p k q) ∙ c .done p j (omega arith)
 
--- ---- a turn: row i is `set`, row k was `by`
-module _ {base n i : ℕ} {w₀ w set by : List ℕ} (k : ℕ) (h : i < n) (c : Passed base n i (via (related w₀ base) k) w₀ w)
-    (is : set ≡ row w base i) (was : by ≡ row w₀ base k) where
-  mine : (j : ℕ) → inSet set j ≡ related w₀ base i j
+-- ---- a turn: row k was `by`
+module _ {base n i : ℕ} {w₀ w by : List ℕ} (k : ℕ) (h : i < n) (c : Passed base n i (via (related w₀ base) k) w₀ w) (was : by ≡ row w₀ base k) where
+  mine : (j : ℕ) → related w base i j ≡ related w₀ base i j
   unfolding related
-  mine j = ap (λ (s : List ℕ). inSet s j) (is ∙ c .rest i (omega arith))
+  mine j = ap (λ (s : List ℕ). inSet s j) (c .rest i (omega arith))
 
-  -- k is not in it
-  pub through-off : inSet set k ≡ false → Passed base n (i + 1) (via (related w₀ base) k) w₀ w
+  -- k is not in row i
+  pub through-off : related w base i k ≡ false → Passed base n (i + 1) (via (related w₀ base) k) w₀ w
+  unfolding related
   through-off e = passed-more h c (kept-same _ _ w) (λ j.
-      ap (λ (s : List ℕ). inSet s j) (sym is) ∙ mine j ∙ sym (or-false (related w₀ base i j))
+      mine j ∙ sym (or-false (related w₀ base i j))
       ∙ ap (λ (b : Bool). related w₀ base i j || (b && related w₀ base k j)) (sym e ∙ mine k))
 
-  -- k is in it: it becomes the union of both
-  pub through-on : {w' : List ℕ} {u : List ℕ} → inSet set k ≡ true → Kept (base + 4 * i) (base + 4 * i + 4) w w' → row w' base i ≡ u
+  -- k is in row i, `set`: it becomes the union of both
+  pub through-on : {w' set u : List ℕ} → related w base i k ≡ true → set ≡ row w base i → Kept (base + 4 * i) (base + 4 * i + 4) w w' → row w' base i ≡ u
       → ((j : ℕ) → inSet u j ≡ (inSet set j || inSet by j)) → Passed base n (i + 1) (via (related w₀ base) k) w₀ w'
   unfolding related
-  through-on e q r f = passed-more h c q (λ j.
-      ap (λ (s : List ℕ). inSet s j) r ∙ f j ∙ ap₂ (λ (a : Bool) (s : List ℕ). a || inSet s j) (mine j) was
+  through-on e is q r f = passed-more h c q (λ j.
+      ap (λ (s : List ℕ). inSet s j) r ∙ f j
+      ∙ ap₂ (λ (a : Bool) (s : List ℕ). a || inSet s j) (ap (λ (s : List ℕ). inSet s j) is ∙ mine j) was
       ∙ ap (λ (b : Bool). related w₀ base i j || (b && related w₀ base k j)) (sym e ∙ mine k))

@@ -8,7 +8,6 @@ ghost use lib.ListN.{length};
 ghost use Rattle.memory.specs.Frame.{Kept};
 ghost use Rattle.sets.specs.Rows.{row, related, Link, Closure};
 use super::empty;
-use super::has;
 use super::same;
 use super::union;
 use super::with;
@@ -37,8 +36,17 @@ pub fn store(w: &mut [u64], base: usize, i: usize, set: [u64; 4])
     w[at + 3] = set[3];
 }
 
+// Is k in row i? One word of the row tells.
+// Cost: constant.
+fn holds(w: &[u64], base: usize, i: usize, k: usize) -> bool
+    requires { ⌜ (k < 256) × (base + 4 * i + 4 ≤ length (now w)) ⌝ }
+    ensures { λ r. ⌜ r ≡ related (now (w .entry)) base i k ⌝ }
+{
+    w[base + 4 * i + (k >> 6)] & (1u64 << (k & 63)) != 0
+}
+
 // What k is related to, each row that has k is now related to as well. Row k is read once: it does not change.
-// Cost: n rows.
+// Cost: one word of n rows, and four of those that have k.
 pub fn through(w: &mut [u64], base: usize, n: usize, k: usize)
     requires { ⌜ (n ≤ 256) × ((k < n) × (base + 4 * n ≤ length (now w))) ⌝ }
     ensures kept { λ _. ⌜ Kept base (base + 4 * n) (now (w .entry)) (now (w .exit)) ⌝ }
@@ -47,9 +55,8 @@ pub fn through(w: &mut [u64], base: usize, n: usize, k: usize)
     let by = load(w, base, k);
     let mut i: usize = 0;
     while i < n {
-        let set = load(w, base, i);
-        if has(set, k) {
-            store(w, base, i, union(set, by));
+        if holds(w, base, i, k) {
+            store(w, base, i, union(load(w, base, i), by));
         }
         i += 1;
     }

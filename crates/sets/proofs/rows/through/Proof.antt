@@ -21,13 +21,12 @@ loop-holds c = passed-start _ _ _ _
 
 loop-again : tie.Need-loop-again Inv-loop μ-loop
 loop-again c =
-    let l = c .before .before .before .before .before in
+    let l = c .before .before .before .before in
     let k = l .before .before .before .before .args .k in
-    let s = c .before .before .load2 .ensures in
-    let t = c .before .has .ensures in
+    let t = c .before .holds .ensures in
     ⊎-elim
-    (λ a. rw (a .6) (through-on k (omega arith) (l .loop .inv) s (l .before .load .ensures) (sym t ∙ a .0 .taken) (a .3 .ensures .0) (a .3 .ensures .1) (a .2 .ensures)))
-    (λ a. rw (a .1) (through-off k (omega arith) (l .loop .inv) s (l .before .load .ensures) (sym t ∙ a .0 .left)))
+    (λ a. rw (a .8) (through-on k (omega arith) (l .loop .inv) (l .before .load .ensures) (sym t ∙ a .0 .taken) (a .3 .ensures) (a .5 .ensures .0) (a .5 .ensures .1) (a .4 .ensures)))
+    (λ a. rw (a .1) (through-off k (omega arith) (l .loop .inv) (l .before .load .ensures) (sym t ∙ a .0 .left)))
     (c .if1 .came)
 
 same-length : tie.Need-same-length Inv-loop μ-loop
