@@ -6,4 +6,5 @@ pub mod Scanning
 pub mod RowLaws
 pub mod Closing
 pub mod Through
+pub mod Twice
 pub mod Laws

@@ -1,7 +1,7 @@
 -- SetLaws: what the operations on four words do to the members.
 use mathlib.Core.Path.{_≡_, refl, sym, ap, ap₂, _∙_, subst}
 use mathlib.Core.Logic.{_↔_, ⊎-elim}
-use mathlib.Core.Bool.{Bool, false, not, _||_}
+use mathlib.Core.Bool.{Bool, false, not, _||_, _&&_}
 use mathlib.Core.List.{List, [], _∷_}
 use Prim.Native.Nat.{ℕ, zero, suc, _+_, _*_, _/_, _%_, _^_, _≤_, _<_}
 use native.Mathlib.Decide.{ℕ-discrete, decLe}
@@ -92,7 +92,7 @@ empty-set j = rw (zeros (j / 64)) (bit-zero (j % 64))
     zeros (suc (suc (suc zero))) = refl
     zeros (suc (suc (suc (suc q)))) = refl
 
--- ---- union
+-- ---- union, common
 
 -- an operation word by word
 abbrev pub wise : (ℕ → ℕ → ℕ) → List ℕ → List ℕ → List ℕ
@@ -108,6 +108,10 @@ wise-at f a b z la lb (suc (suc (suc (suc q)))) = sym (ap₂ f (List·getD-eq-de
 pub union-set : (a b : List ℕ) → length a ≡ 4 → length b ≡ 4 → (j : ℕ) → inSet (wise bitOr a b) j ≡ (inSet a j || inSet b j)
 unfolding inSet
 union-set a b la lb j = rw (wise-at bitOr a b refl la lb (j / 64)) (bit-or (getD a (j / 64) 0) (getD b (j / 64) 0) (j % 64))
+
+pub common-set : (a b : List ℕ) → length a ≡ 4 → length b ≡ 4 → (j : ℕ) → inSet (wise bitAnd a b) j ≡ (inSet a j && inSet b j)
+unfolding inSet
+common-set a b la lb j = rw (wise-at bitAnd a b refl la lb (j / 64)) (bit-and (getD a (j / 64) 0) (getD b (j / 64) 0) (j % 64))
 
 -- ---- meets, same: the words f 0 to f n, all in one
 

@@ -1,7 +1,7 @@
 // sets: sets of numbers below 256 by value, and rows of them in lent words (rows.rt). Number k is digit `k & 63` of word `k >> 6`.
 ghost use mathlib.Core.Path.{_≡_};
 ghost use mathlib.Core.Logic.{_↔_};
-ghost use mathlib.Core.Bool.{false, _||_};
+ghost use mathlib.Core.Bool.{false, _||_, _&&_};
 ghost use Prim.Native.Nat.{ℕ, _≤_, _<_};
 ghost use lib.Dec.{eqb, T};
 ghost use Rattle.automata.specs.Live.{count};
@@ -43,6 +43,14 @@ pub fn union(a: [u64; 4], b: [u64; 4]) -> [u64; 4]
     ensures { λ r. ⌜ ((j : ℕ) → inSet r j ≡ (inSet a j || inSet b j)) ⌝ }
 {
     [a[0] | b[0], a[1] | b[1], a[2] | b[2], a[3] | b[3]]
+}
+
+// The members of both.
+// Cost: constant.
+pub fn common(a: [u64; 4], b: [u64; 4]) -> [u64; 4]
+    ensures { λ r. ⌜ ((j : ℕ) → inSet r j ≡ (inSet a j && inSet b j)) ⌝ }
+{
+    [a[0] & b[0], a[1] & b[1], a[2] & b[2], a[3] & b[3]]
 }
 
 // Have they a member in common?

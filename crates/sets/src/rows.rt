@@ -6,8 +6,11 @@ ghost use Prim.Native.Nat.{ℕ, _+_, _*_, _≤_, _<_};
 ghost use lib.Dec.{T};
 ghost use lib.ListN.{length};
 ghost use Rattle.memory.specs.Frame.{Kept};
+ghost use Rattle.sets.specs.Sets.{inSet};
 ghost use Rattle.sets.specs.Rows.{row, related, Link, Closure};
+use super::common;
 use super::empty;
+use super::next_live;
 use super::same;
 use super::union;
 use super::with;
@@ -62,19 +65,40 @@ pub fn through(w: &mut [u64], base: usize, n: usize, k: usize)
     }
 }
 
-// The reflexive and transitive closure of a reflexive relation, by Warshall's algorithm: through each k in turn. A row that
-// holds itself alone leads nowhere else and is passed over.
-// Cost: n rows, and n more for each row that holds another number than its own.
+// Numbers among which is each that two of the first n rows hold.
+// Cost: n rows.
+fn held_twice(w: &[u64], base: usize, n: usize) -> [u64; 4]
+    requires { ⌜ base + 4 * n ≤ length (now w) ⌝ }
+    ensures { λ r. ⌜ ((i m j : ℕ) → i < m → m < n → T (related (now (w .entry)) base i j) → T (related (now (w .entry)) base m j) → T (inSet r j)) ⌝ }
+{
+    let mut once = empty();
+    let mut twice = empty();
+    let mut i: usize = 0;
+    while i < n {
+        let set = load(w, base, i);
+        let again = union(twice, common(once, set));
+        twice = again;
+        let all = union(once, set);
+        once = all;
+        i += 1;
+    }
+    twice
+}
+
+// The reflexive and transitive closure of a reflexive relation, by Warshall's algorithm: through each k in turn. A k that no row but
+// its own holds is passed over, since nothing else leads to it, and so is one whose row holds it alone, since it leads to nothing else.
+// Cost: n rows, and n more for each k that is not passed over.
 pub fn close_rows(w: &mut [u64], base: usize, n: usize)
     requires { ⌜ (n ≤ 256) × ((base + 4 * n ≤ length (now w)) × ((i : ℕ) → i < n → T (related (now w) base i i))) ⌝ }
     ensures kept { λ _. ⌜ Kept base (base + 4 * n) (now (w .entry)) (now (w .exit)) ⌝ }
     ensures closed { λ _. ⌜ ((i j : ℕ) → i < n → T (related (now (w .exit)) base i j) ↔ Closure (Link n (related (now (w .entry)) base)) i j) ⌝ }
 {
-    let mut k: usize = 0;
+    let inner = held_twice(w, base, n);
+    let mut k = next_live(inner, 0);
     while k < n {
         if !same(load(w, base, k), with(empty(), k)) {
             through(w, base, n, k);
         }
-        k += 1;
+        k = next_live(inner, k + 1);
     }
 }
