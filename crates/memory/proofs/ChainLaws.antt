@@ -70,14 +70,14 @@ chain-kept {key} {key'} {w} {w'} {heads} {nexts} {slots} {n} e f g c = record {
   next = λ j h. field-same w w' nexts j (g j h) ∙ c .next j h ∙ ap (λ (k : ℕ). last key k j) (e j h) ∙ last-ext key key' (key' j) j (λ i l. e i (omega arith));
 }
 
--- entry n joins the chain of s: field n of the nexts is the head so far, and the head is n
+-- entry n joins the chain of s: the head is n, and field n of the nexts is the head so far
 pub pushed : {w w1 w2 : List ℕ} (heads nexts s n before : ℕ)
-    → Kept (nexts + n / 4) (nexts + n / 4 + 1) w w1 → Kept (heads + s / 4) (heads + s / 4 + 1) w1 w2 → before ≡ field w heads s
-    → ((j : ℕ) → field w1 nexts j ≡ cond (eqb j n) before (field w nexts j)) → ((j : ℕ) → field w2 heads j ≡ cond (eqb j s) n (field w1 heads j))
+    → Kept (heads + s / 4) (heads + s / 4 + 1) w w1 → Kept (nexts + n / 4) (nexts + n / 4 + 1) w1 w2 → before ≡ field w heads s
+    → ((j : ℕ) → field w1 heads j ≡ cond (eqb j s) n (field w heads j)) → ((j : ℕ) → field w2 nexts j ≡ cond (eqb j n) before (field w1 nexts j))
     → (key : ℕ → ℕ) (slots : ℕ) → Chain key w heads nexts slots n → Apart heads slots nexts (n + 1) → s < slots → key n ≡ s → Chain key w2 heads nexts slots (n + 1)
 pushed {w} {w1} {w2} heads nexts s n before k1 k2 b f1 f2 key slots c d l e = record {
-  head = λ t g. f2 t ∙ ap (cond (eqb t s) n) (field-same w w1 heads t (kept-other k1 (heads + t / 4) (d t n g (omega arith))) ∙ c .head t g) ∙ first t (ℕ-discrete t s);
-  next = λ j g. field-same w1 w2 nexts j (kept-other k2 (nexts + j / 4) (λ p. d s j l g (sym p))) ∙ f1 j ∙ other j g (ℕ-discrete j n);
+  head = λ t g. field-same w1 w2 heads t (kept-other k2 (heads + t / 4) (d t n g (omega arith))) ∙ f1 t ∙ ap (cond (eqb t s) n) (c .head t g) ∙ first t (ℕ-discrete t s);
+  next = λ j g. f2 j ∙ ap (cond (eqb j n) before) (field-same w w1 nexts j (kept-other k1 (nexts + j / 4) (λ p. d s j l g (sym p)))) ∙ other j g (ℕ-discrete j n);
 }
   where
     first : (t : ℕ) → Dec (t ≡ s) → cond (eqb t s) n (last key t n) ≡ last key t (n + 1)

@@ -1,16 +1,17 @@
 -- FieldLaws: laws of fields of 16 bits. A word is read as digits to the base 2 ^ 16, the lowest first, by recursion on the place.
-use mathlib.Core.Path.{_≡_, refl, sym, ap, _∙_}
+use mathlib.Core.Path.{_≡_, refl, sym, ap, ap₂, _∙_}
 use mathlib.Core.Bool.{cond}
 use mathlib.Core.Logic.{_≢_}
 use mathlib.Core.List.{List}
 use Prim.Native.Nat.{ℕ, zero, suc, _+_, _-_, _*_, _/_, _%_, _^_, _≤_, _<_}
-use native.Mathlib.Nat.{mul-assoc}
+use native.Mathlib.Nat.{mul-assoc, zero-div, div-add-mod'}
 use native.Mathlib.Decide.{ℕ-discrete}
 use native.Mathlib.Omega.{arith}
 use borrow.Author.Tests.{eq-eqb, ne-eqb}
 use lib.Dec.{eqb}
 use lib.ListN.{length, getD, set}
 use lib.Pow.{pow-add, shr-shr, shl-exact}
+use lib.Bits.{bitXor, differ, xor-step, xor-zero-r, xor-shr, xor-mod}
 use lib.Seq.{getD-set-same, getD-set-other}
 use Rattle.memory.specs.Frame.{Kept}
 use Rattle.memory.specs.Fields.{field}
@@ -21,62 +22,78 @@ use Rattle.memory.proofs.FrameLaws.{kept-same, kept-then, kept-wider, k
 abbrev pub digitOf : ℕ → ℕ → ℕ
 digitOf x q = x / 2 ^ (16 * q) % 65536
 
-abbrev pub putOf : ℕ → ℕ → ℕ → ℕ
-putOf x q v = x - digitOf x q * 2 ^ (16 * q) + v * 2 ^ (16 * q)
+-- in which binary digits it differs from v
+abbrev changeOf : ℕ → ℕ → ℕ → ℕ
+changeOf x q v = bitXor (x / 2 ^ (16 * q)) v % 65536
 
-power-suc : (q : ℕ) → 2 ^ (16 * suc q) ≡ 2 ^ (16 * q) * 65536
-power-suc q = let e : 16 * suc q ≡ 16 * q + 16 = omega arith in ap (λ (n : ℕ). 2 ^ n) e ∙ pow-add 2 (16 * q) 16
+abbrev pub putOf : ℕ → ℕ → ℕ → ℕ
+putOf x q v = bitXor x (changeOf x q v * 2 ^ (16 * q) % 2 ^ 64)
 
 at-suc : (v q : ℕ) → v * 2 ^ (16 * suc q) ≡ v * 2 ^ (16 * q) * 65536
-at-suc v q = ap (λ (n : ℕ). v * n) (power-suc q) ∙ sym (mul-assoc v (2 ^ (16 * q)) 65536)
+at-suc v q = let e : 16 * suc q ≡ 16 * q + 16 = omega arith in ap (λ (n : ℕ). v * n) (ap (λ (n : ℕ). 2 ^ n) e ∙ pow-add 2 (16 * q) 16) ∙ sym (mul-assoc v (2 ^ (16 * q)) 65536)
 
 digit-suc : (x q : ℕ) → digitOf x (suc q) ≡ digitOf (x / 65536) q
 digit-suc x q = let e : 16 * suc q ≡ 16 + 16 * q = omega arith in ap (λ (n : ℕ). x / 2 ^ n % 65536) e ∙ ap (λ (n : ℕ). n % 65536) (sym (shr-shr x 16 (16 * q)))
 
--- a digit in its place is at most the word
-digit-le : (x q : ℕ) → digitOf x q * 2 ^ (16 * q) ≤ x
-digit-le x zero = omega arith
-digit-le x (suc q) = omega (arith, digit-le (x / 65536) q, ap (λ (d : ℕ). d * 2 ^ (16 * suc q)) (digit-suc x q), at-suc (digitOf (x / 65536) q) q)
+-- ---- a word with d for digit q and 0 for the others
 
-put-zero : (x v : ℕ) → putOf x 0 v ≡ x / 65536 * 65536 + v
-put-zero x v = omega arith
+placed-suc : (d q p : ℕ) → digitOf (d * 2 ^ (16 * suc q)) (suc p) ≡ digitOf (d * 2 ^ (16 * q)) p
+placed-suc d q p =
+    let e : d * 2 ^ (16 * suc q) / 65536 ≡ d * 2 ^ (16 * q) = omega (arith, at-suc d q) in
+    digit-suc (d * 2 ^ (16 * suc q)) p ∙ ap (λ (y : ℕ). digitOf y p) e
 
-put-suc : (x q v : ℕ) → putOf x (suc q) v ≡ putOf (x / 65536) q v * 65536 + x % 65536
-put-suc x q v = omega (arith, digit-le (x / 65536) q, ap (λ (d : ℕ). d * 2 ^ (16 * suc q)) (digit-suc x q), at-suc (digitOf (x / 65536) q) q, at-suc v q)
+placed-same : (d q : ℕ) → d < 65536 → digitOf (d * 2 ^ (16 * q)) q ≡ d
+placed-same d zero h = omega arith
+placed-same d (suc q) h = placed-suc d q q ∙ placed-same d q h
 
-put-same : (x q v : ℕ) → v < 65536 → digitOf (putOf x q v) q ≡ v
-put-same x zero v h = omega arith
-put-same x (suc q) v h =
-    let e : putOf x (suc q) v / 65536 ≡ putOf (x / 65536) q v = omega (arith, put-suc x q v) in
-    digit-suc (putOf x (suc q) v) q ∙ ap (λ (y : ℕ). digitOf y q) e ∙ put-same (x / 65536) q v h
+placed-other : (d q p : ℕ) → d < 65536 → p ≢ q → digitOf (d * 2 ^ (16 * q)) p ≡ 0
+placed-other d zero zero h n = absurd (n refl)
+placed-other d zero (suc p) h n =
+    let e : d * 2 ^ (16 * 0) / 65536 ≡ 0 = omega arith in
+    digit-suc (d * 2 ^ (16 * 0)) p ∙ ap (λ (y : ℕ). digitOf y p) e ∙ ap (λ (y : ℕ). y % 65536) (zero-div (2 ^ (16 * p)))
+placed-other d (suc q) zero h n = omega (arith, at-suc d q)
+placed-other d (suc q) (suc p) h n = placed-suc d q p ∙ placed-other d q p h (λ s. n (ap suc s))
 
-put-other : (x q p v : ℕ) → v < 65536 → p ≢ q → digitOf (putOf x q v) p ≡ digitOf x p
-put-other x zero zero v h n = absurd (n refl)
-put-other x zero (suc p) v h n =
-    let e : putOf x 0 v / 65536 ≡ x / 65536 = omega (arith, put-zero x v) in
-    digit-suc (putOf x 0 v) p ∙ ap (λ (y : ℕ). digitOf y p) e ∙ sym (digit-suc x p)
-put-other x (suc q) zero v h n = omega (arith, put-suc x q v)
-put-other x (suc q) (suc p) v h n =
-    let e : putOf x (suc q) v / 65536 ≡ putOf (x / 65536) q v = omega (arith, put-suc x q v) in
-    digit-suc (putOf x (suc q) v) p ∙ ap (λ (y : ℕ). digitOf y p) e ∙ put-other (x / 65536) q p v h (λ s. n (ap suc s)) ∙ sym (digit-suc x p)
+-- ---- turning digits over
 
--- a word of m digits stays one
-pub put-fits : (m x q v : ℕ) → x < 2 ^ (16 * m) → v < 65536 → q < m → putOf x q v < 2 ^ (16 * m)
-put-fits zero x q v f h g = absurd (omega arith)
-put-fits (suc m) x zero v f h g = omega (arith, power-suc m, put-zero x v)
-put-fits (suc m) x (suc q) v f h g = omega (arith, power-suc m, put-suc x q v, put-fits m (x / 65536) q v (omega (arith, power-suc m)) h (omega arith))
+turned-twice : (x y : ℕ) → x < 2 → y < 2 → differ x (bitXor x y) ≡ y
+turned-twice zero zero h g = refl
+turned-twice zero (suc zero) h g = refl
+turned-twice (suc zero) zero h g = refl
+turned-twice (suc zero) (suc zero) h g = refl
+turned-twice zero (suc (suc y)) h g = absurd (omega arith)
+turned-twice (suc zero) (suc (suc y)) h g = absurd (omega arith)
+turned-twice (suc (suc x)) y h g = absurd (omega arith)
+
+xor-twice : (k a b : ℕ) → a < 2 ^ k → b < 2 ^ k → bitXor a (bitXor a b) ≡ b
+xor-twice zero a b h g = let e : a ≡ 0 = omega arith in let f : b ≡ 0 = omega arith in rw (e, f)
+xor-twice (suc k) a b h g =
+    xor-step a (bitXor a b)
+    ∙ ap₂ (λ (x y : ℕ). x * 2 + y)
+    (ap (bitXor (a / 2)) (xor-shr a b 1) ∙ xor-twice k (a / 2) (b / 2) (omega arith) (omega arith))
+    (ap (differ (a % 2)) (xor-mod a b 1) ∙ turned-twice (a % 2) (b % 2) (omega arith) (omega arith))
+    ∙ div-add-mod' b 2
+
+digit-xor : (a b p : ℕ) → digitOf (bitXor a b) p ≡ bitXor (digitOf a p) (digitOf b p)
+digit-xor a b p = ap (λ (y : ℕ). y % 65536) (xor-shr a b (16 * p)) ∙ xor-mod (a / 2 ^ (16 * p)) (b / 2 ^ (16 * p)) 16
 
 -- a digit that is shifted to its place in a word of four loses nothing
 shifted : (v q : ℕ) → v < 65536 → q < 4 → v * 2 ^ (16 * q) % 2 ^ 64 ≡ v * 2 ^ (16 * q)
 shifted v q h g = shl-exact {a = v} 16 (16 * q) 64 h (omega arith)
 
--- the digit may be taken off
-pub take-le : (x q : ℕ) → q < 4 → digitOf x q * 2 ^ (16 * q) % 2 ^ 64 ≤ x
-take-le x q g = rw (shifted (digitOf x q) q (omega arith) g) (digit-le x q)
+module _ (x q v : ℕ) (g : q < 4) where
+  put-digit : (p : ℕ) → digitOf (putOf x q v) p ≡ bitXor (digitOf x p) (digitOf (changeOf x q v * 2 ^ (16 * q)) p)
+  put-digit p = rw (shifted (changeOf x q v) q (omega arith) g) (digit-xor x (changeOf x q v * 2 ^ (16 * q)) p)
 
--- and another one put there
-pub put-is : (x q v : ℕ) → v < 65536 → q < 4 → x - digitOf x q * 2 ^ (16 * q) % 2 ^ 64 + v * 2 ^ (16 * q) % 2 ^ 64 ≡ putOf x q v
-put-is x q v h g = rw (shifted (digitOf x q) q (omega arith) g, shifted v q h g)
+  put-same : v < 65536 → digitOf (putOf x q v) q ≡ v
+  put-same h =
+      let e : v % 65536 ≡ v = omega arith in
+      put-digit q
+      ∙ ap (bitXor (digitOf x q)) (placed-same (changeOf x q v) q (omega arith) ∙ xor-mod (x / 2 ^ (16 * q)) v 16 ∙ ap (bitXor (digitOf x q)) e)
+      ∙ xor-twice 16 (digitOf x q) v (omega arith) h
+
+  put-other : (p : ℕ) → p ≢ q → digitOf (putOf x q v) p ≡ digitOf x p
+  put-other p n = put-digit p ∙ ap (bitXor (digitOf x p)) (placed-other (changeOf x q v) q p (omega arith) n) ∙ xor-zero-r (digitOf x p)
 
 -- ---- fields of lent words
 
@@ -104,8 +121,8 @@ put-field w base k v h g j = go (ℕ-discrete (j / 4) (k / 4)) (ℕ-discrete j k
     go : Dec (j / 4 ≡ k / 4) → Dec (j ≡ k) → digitOf (getD new (base + j / 4) 0) (j % 4) ≡ cond (eqb j k) v (digitOf (getD w (base + j / 4) 0) (j % 4))
     go (yes e) (yes f) =
         let m : j % 4 ≡ k % 4 = omega arith in
-        rw (eq-eqb j k f) (mine e ∙ ap (λ (q : ℕ). digitOf (putOf (getD w (base + j / 4) 0) q v) (j % 4)) (sym m) ∙ put-same (getD w (base + j / 4) 0) (j % 4) v g)
-    go (yes e) (no n) = rw (ne-eqb j k n) (mine e ∙ put-other (getD w (base + j / 4) 0) (k % 4) (j % 4) v g (λ p. n (omega arith)))
+        rw (eq-eqb j k f) (mine e ∙ ap (λ (q : ℕ). digitOf (putOf (getD w (base + j / 4) 0) q v) (j % 4)) (sym m) ∙ put-same (getD w (base + j / 4) 0) (j % 4) v (omega arith) g)
+    go (yes e) (no n) = rw (ne-eqb j k n) (mine e ∙ put-other (getD w (base + j / 4) 0) (k % 4) v (omega arith) (j % 4) (λ p. n (omega arith)))
     go (no n) d =
         rw (ne-eqb j k (λ p. n (omega arith)))
         (ap (λ (x : ℕ). digitOf x (j % 4)) (getD-set-other w (base + k / 4) (base + j / 4) (putOf (getD w (base + k / 4) 0) (k % 4) v) 0 (λ p. n (omega arith))))

@@ -36,8 +36,8 @@ kept-other {a} {w} {w'} k j n = go (decLt j a)
     go (no h) = k .above j (omega arith)
 
 -- two words are written, one after the other
-pub beside : {a b : ℕ} {w w' w'' : List ℕ} → Kept b (b + 1) w w' → Kept a (a + 1) w' w'' → Beside a b w w''
-beside p q = record { long = q .long ∙ p .long; rest = λ j m n. kept-other q j m ∙ kept-other p j n }
+pub beside : {a b : ℕ} {w w' w'' : List ℕ} → Kept a (a + 1) w w' → Kept b (b + 1) w' w'' → Beside a b w w''
+beside p q = record { long = q .long ∙ p .long; rest = λ j m n. kept-other q j n ∙ kept-other p j m }
 
 -- both of them lie in one part
 pub beside-kept : {a b c d : ℕ} {w w' : List ℕ} → c ≤ a → a < d → c ≤ b → b < d → Beside a b w w' → Kept c d w w'

@@ -16,8 +16,8 @@ pub fn push(w: &mut [u64], heads: usize, nexts: usize, s: usize, n: usize)
     ensures chain { λ _. ⌜ ((key : ℕ → ℕ) (slots : ℕ) → Chain key (now (w .entry)) heads nexts slots n → Apart heads slots nexts (n + 1) → s < slots → key n ≡ s → Chain key (now (w .exit)) heads nexts slots (n + 1)) ⌝ }
 {
     let before = get16(w, heads, s);
-    put16(w, nexts, n, before);
     put16(w, heads, s, n);
+    put16(w, nexts, n, before);
 }
 
 // The key of a word.

@@ -29,8 +29,8 @@ pub fn put16(w: &mut [u64], base: usize, k: usize, v: usize)
     let at = base + k / 4;
     let s = 16 * (k % 4);
     let x = w[at];
-    let old = (x >> s) % 65536;
-    w[at] = x - (old << s) + ((v as u64) << s);
+    let change = ((x >> s) ^ (v as u64)) % 65536;
+    w[at] = x ^ (change << s);
 }
 
 // Every field of the n words from base on becomes 65535, which stands for no entry of a chain.
