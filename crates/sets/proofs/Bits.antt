@@ -17,10 +17,6 @@ use Rattle.sets.specs.Sets.{bit}
 pub mask-is : (k : ℕ) → bitAnd k 63 ≡ k % 64
 mask-is k = and-mask k 6
 
--- the last number of the word that k is in
-pub last-of-word : (k : ℕ) → bitOr k 63 + k % 64 ≡ k + 63
-last-of-word k = ap (λ (x : ℕ). bitOr k 63 + x) (sym (mask-is k)) ∙ or-add-and k 63
-
 -- ---- one digit
 
 -- a digit is 0 or 1

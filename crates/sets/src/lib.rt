@@ -88,19 +88,24 @@ pub fn size(set: [u64; 4]) -> u32
         + u64::count_ones(set[3])
 }
 
-// The least member from c on, or 256 where there is none: the rest of c's word first, then whole words.
-// Cost: at most four words.
+// The least member from c on, or 256 where there is none. The words are gone through from the first, so that no index depends on c
+// once the loop is unrolled.
+// Cost: four words.
 pub fn next_live(set: [u64; 4], c: usize) -> usize
     requires { ⌜ c ≤ 256 ⌝ }
     ensures { λ r. ⌜ Next set c r ⌝ }
 {
     let mut at = c;
-    while at < 256 {
-        let x = set[at >> 6] >> (at & 63);
-        if x != 0 {
-            return at + u64::trailing_zeros(x) as usize;
+    let mut q: usize = 0;
+    while q < 4 {
+        if at < 64 * q + 64 {
+            let x = set[q] >> (at & 63);
+            if x != 0 {
+                return at + u64::trailing_zeros(x) as usize;
+            }
+            at = 64 * q + 64;
         }
-        at = (at | 63) + 1;
+        q += 1;
     }
     at
 }
