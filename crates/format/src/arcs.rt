@@ -16,9 +16,13 @@ fn is_operation(c: Counts, s: &[u8], at: usize) -> bool
     ensures { λ r. ⌜ r ≡ wellOp c (getD (now (s .entry)) at 0) (getD (now (s .entry)) (at + 1) 0) ⌝ }
 {
     let x = byte(s, at);
+    let symbol = byte(s, at + 1);
+    // Two bytes 00, the only operation where register 0 is the only one, are looked for first.
+    if x + symbol == 0 {
+        return (0 < c.registers) & (0 < c.symbols);
+    }
     let kind = operation_kind(x);
     let register = operation_register(x);
-    let symbol = byte(s, at + 1);
     (kind <= 1)
         & (register < c.registers)
         & (symbol < c.symbols)

@@ -1,36 +1,37 @@
--- Whether two bytes are an operation: the test itself, of the bytes that were read.
+-- Whether two bytes are an operation: the test itself, of the bytes that were read; of two bytes 00 what is left of it.
 use borrow.Author.Needs.{needs}
+use native.Mathlib.Omega.{arith}
+use mathlib.Core.Path.{_≡_, sym}
+use mathlib.Core.Bool.{_&&_, and-true}
+use Prim.Native.Nat.{_+_}
+use lib.Dec.{ltb}
+use lib.ListN.{getD}
 use Rattle.format.proofs.arcs.is_operation.Statement.{statement}
 use Rattle.format.proofs.arcs.is_operation.Tie as tie
 
-byte-requires : tie.Need-byte-requires
-byte-requires c κs = search needs
-
-operation-kind-requires : tie.Need-operation-kind-requires
-operation-kind-requires c κs = search needs
-
-operation-register-requires : tie.Need-operation-register-requires
-operation-register-requires c κs = search needs
-
-add-byte : tie.Need-add-byte
-add-byte c = search needs
-
-byte-requires-2 : tie.Need-byte-requires-2
-byte-requires-2 c κs = search needs
-
 returns : tie.Need-returns
 returns c =
-    let c2 = c .before .before in
-    let x = c2 .before .before .before .byte .ensures .0 in
-    rw (c2 .before .before .operation-kind .ensures, c2 .before .operation-register .ensures, x, c2 .byte2 .ensures .0)
+    let d = c .before .before .before in
+    let a = d .before .before .before .args in
+    let x : getD (a .s .now) (a .at) 0 ≡ 0 = omega (arith, d .before .byte .ensures .0) in
+    let y : getD (a .s .now) (a .at + 1) 0 ≡ 0 = omega (arith, d .byte2 .ensures .0) in
+    rw (x, y) (sym (and-true (ltb 0 (a .c .registers) && ltb 0 (a .c .symbols))))
+
+returns-2 : tie.Need-returns-2
+returns-2 c =
+    let r = c .before .before in
+    let y = r .before .before .before in
+    rw (r .before .operation-kind .ensures, r .operation-register .ensures, y .before .byte .ensures .0, y .byte2 .ensures .0)
 
 pub is-operation-spec : {M : Type 1} → statement M
 is-operation-spec =
     tie.close
     (tie.spec
-    byte-requires
-    operation-kind-requires
-    operation-register-requires
-    add-byte
-    byte-requires-2
-    returns)
+    (λ c κs. search needs)
+    (λ c. search needs)
+    (λ c κs. search needs)
+    (λ c. search needs)
+    returns
+    (λ c κs. search needs)
+    (λ c κs. search needs)
+    returns-2)
