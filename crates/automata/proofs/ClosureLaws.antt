@@ -1,6 +1,4 @@
 -- ClosureLaws: the closure accepts a word just if it is a finite sequence of accepted words.
-
--- ---- the return
 use mathlib.Core.Path.{_∙_, _≡_, ap, refl, sym}
 use mathlib.Core.Logic.{_↔_, ⊎-elim}
 use Prim.Native.Nat.{_+_, _<_, suc, zero, ℕ}
@@ -22,6 +20,7 @@ use Rattle.automata.proofs.Parts.{Beside, Cut, Laid, Layout, Own, back,
 use Rattle.automata.proofs.PerformingLaws.{perform-iff}
 use Rattle.automata.proofs.RunLaws.{carried, joined}
 
+-- ---- the return
 abbrev zeroing : List ℕ → List Op
 zeroing l = map (λ i. writes i 0) l
 

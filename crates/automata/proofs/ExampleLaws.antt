@@ -1,7 +1,5 @@
 -- ExampleLaws: every row of document 01's table holds. One test is computed over the rows; one law turns it into what they say.
 -- The laws are stated at a limit L that is a variable, so that no walk of an unknown automaton is ever computed.
-
--- is no byte listed twice?
 use mathlib.Core.Path.{_≡_, refl, subst}
 use mathlib.Core.Logic.{⊎-elim}
 use Prim.Native.Nat.{_≤_, ℕ}
@@ -20,6 +18,7 @@ use Rattle.automata.proofs.ListLaws.{and-iff, not-iff}
 use Rattle.automata.proofs.MembershipLaws.{acceptedBytes-iff}
 use Rattle.automata.proofs.ReachLaws.{configurations-count}
 
+-- is no byte listed twice?
 distinct : List ℕ → Bool
 distinct [] = true
 distinct (x ∷ l) = not (has eqb x l) && distinct l

@@ -1,6 +1,4 @@
 -- LanguageLaws: the languages of the joined and the unfolded automata, for words of bytes and of every length.
-
--- ---- the languages of joined automata, whose parts have one alphabet
 use mathlib.Core.Path.{_≡_, subst, sym}
 use mathlib.Core.Logic.{_↔_, _⊎_}
 use Prim.Native.Nat.{_≤_, ℕ}
@@ -18,6 +16,7 @@ use Rattle.automata.proofs.UnfoldedLaws.{unfolded-iff}
 use Rattle.automata.proofs.UnionLaws.{union-iff}
 use Rattle.automata.proofs.WordLaws.{spelled-both, spelled-either, spelled-same, spelled-split, spelled-star}
 
+-- ---- the languages of joined automata, whose parts have one alphabet
 module _ (a b : Automaton) (va : WellFormed a) (vb : WellFormed b) (shared : b .alphabet ≡ a .alphabet) where
   pub union-language : (s : List ℕ) → Language (union a b) s ↔ (Language a s ⊎ Language b s)
   unfolding union

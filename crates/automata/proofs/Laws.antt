@@ -1,8 +1,5 @@
 -- Laws: the theorems of this crate in one place, each in a statement that can be read by itself. Their proofs stand in the modules named.
 -- Read specs/ first: Automaton, Words, then the rest in the order of specs/Lib.antt. L and P are limits, whatever their values.
-
--- ---- one step (PerformingLaws)
--- Performing a list of operations is document 003's relation.
 use mathlib.Core.Path.{_≡_}
 use mathlib.Core.Logic.{_↔_, _⊎_}
 use Prim.Native.Nat.{_<_, _≤_, ℕ}
@@ -36,6 +33,8 @@ use Rattle.automata.proofs.ReachLaws.{configurations-count, configurati
 use Rattle.automata.proofs.SearchLaws.{entry-true, word-met}
 use Rattle.automata.proofs.VerdictLaws.{verdict-right}
 
+-- ---- one step (PerformingLaws)
+-- Performing a list of operations is document 003's relation.
 pub performing : (ops : List Op) (u v : List ℕ) → (perform ops u ≡ some v) ↔ DoesAll ops u v
 performing = perform-iff
 

@@ -1,6 +1,4 @@
 -- NumberLaws: the number of an element in a list: what it is of a member, of a new one, and that a number once given stays.
-
--- ---- where `same` is equality
 use mathlib.Core.Path.{_∙_, _≡_, ap, refl, sym}
 use mathlib.Core.Logic.{_↔_, ⊎-elim}
 use Prim.Native.Nat.{_+_, _<_, _≤_, suc, zero, ℕ}
@@ -18,6 +16,7 @@ use Rattle.automata.specs.Lists.{any}
 use Rattle.automata.proofs.ExplorationLaws.{add-cases}
 use Rattle.automata.proofs.ListLaws.{at-mem, none-some}
 
+-- ---- where `same` is equality
 module _ {X : Type 0} (same : X → X → Bool) (eq : (x y : X) → T (same x y) ↔ (x ≡ y)) where
   pub number-at : {x : X} {l : List X} → List·Memᴰ x l → getElem? l (number same x l) ≡ some x
   unfolding number

@@ -1,6 +1,4 @@
 -- Parts: an automaton that stands as a part of another, its states at other numbers, its registers at other places.
-
--- ---- registers that no operation names
 use mathlib.Core.Path.{_∙_, _≡_, ap, refl, sym}
 use mathlib.Core.Logic.{_↔_, ⊎-elim}
 use Prim.Native.Nat.{_+_, _-_, _<_, suc, zero, ℕ}
@@ -19,6 +17,7 @@ use Rattle.automata.specs.Performing.{act, perform, holds}
 use Rattle.automata.proofs.ListLaws.{T-true, at-back, at-front, bool-ext, getElem?-append, none-some, only-iff}
 use Rattle.automata.proofs.PerformingLaws.{act-iff, perform-iff}
 
+-- ---- registers that no operation names
 pub act-length : (o : Op) (u v : List ℕ) → Does o u v → length v ≡ length u
 act-length (reads i γ) u v d = ap length (sym (d .0))
 act-length (writes i γ) u v d = d .0

@@ -1,11 +1,10 @@
 -- RunLaws: runs one after the other, and runs carried over to other moves.
-
--- runs one after the other
 use Prim.Native.Nat.{ℕ}
 use mathlib.Core.List.{List, _++_}
 use mathlib.Core.Option.{Option, none, some}
 use Rattle.automata.specs.Automaton.{Run, silent, spell, stay}
 
+-- runs one after the other
 pub joined : {X : Type 0} {M : X → Option ℕ → X → Type 0} {x y z : X} {w v : List ℕ} → Run M x w y → Run M y v z → Run M x (w ++ v) z
 joined stay q = q
 joined (silent m r) q = silent m (joined r q)

@@ -1,6 +1,4 @@
 -- VerdictLaws: the verdict is right, for words of every length and whatever their letters (demand 3).
-
--- a run spells letters of the automaton only
 use mathlib.Core.Path.{_∙_, _≡_, ap, refl, subst, sym}
 use mathlib.Core.Logic.{_↔_, _⊎_, inl, inr, ⊎-elim}
 use Prim.Native.Nat.{_<_, _≤_, ℕ}
@@ -21,6 +19,7 @@ use Rattle.automata.proofs.PairLaws.{leads-pairOf, pairs-count, samePai
 use Rattle.automata.proofs.SearchLaws.{First, at, entry-true, first-bad, firstOf-first, none-bad, nowhere}
 use Rattle.automata.proofs.UnfoldingLaws.{accepted-iff}
 
+-- a run spells letters of the automaton only
 run-over : (x : Automaton) → WellFormed x → {c d : Configuration} {w : List ℕ} → Run (Produces x) c w d → Over (letters x) w
 run-over x v stay = tt
 run-over x v (silent m r) = run-over x v r

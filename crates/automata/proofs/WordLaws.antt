@@ -1,6 +1,4 @@
 -- WordLaws: words as bytes: what they stand for, and how properties of words carry over to them.
-
--- ---- the numbers that are computed are those that the bytes stand for
 use mathlib.Core.Path.{_∙_, _≡_, ap, refl, subst, sym}
 use mathlib.Core.Logic.{_↔_, _⊎_, inl, inr, ⊎-elim}
 use Prim.Native.Nat.{ℕ}
@@ -16,6 +14,7 @@ use Rattle.automata.specs.Words.{Spelled, Spells, letterWith, spelling}
 use Rattle.automata.proofs.ListLaws.{at-mem, eqb-iff, getElem?-lt, only-iff}
 use Rattle.automata.proofs.NumberLaws.{apart-distinct, number-at, number-found, one-number}
 
+-- ---- the numbers that are computed are those that the bytes stand for
 module _ (alphabet : List ℕ) (apart : Apart alphabet) where
   letterWith-iff : (byte k : ℕ) → (letterWith alphabet byte ≡ some k) ↔ (getElem? alphabet k ≡ some byte)
   unfolding letterWith

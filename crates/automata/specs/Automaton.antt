@@ -1,6 +1,7 @@
 -- Automaton: finite-state registered automata, and what it means that one accepts a word.
 -- Renders document 003, sections 3.1 and 3.2 (automaton, configuration, produces, run, accepts), with document 01's
--- reading: a run needs no final state at its end, and register 0 stays as it is. No algorithm stands here.
+-- reading: a run needs no final state at its end, and no operation of a well-formed automaton changes register 0. No algorithm stands
+-- here.
 use mathlib.Core.Path.{_≡_}
 use mathlib.Core.Logic.{_≢_}
 use Prim.Native.Nat.{ℕ, zero, suc, _<_}

@@ -31,7 +31,7 @@ m = 109
 abbrev arc : ℕ → ℕ → ℕ → List Op → Arc
 arc s l t ops = arcFrom s (some l) t ops
 
--- T but for its last arc
+-- the first four arcs of T, which V has too, and then the rest
 abbrev arcsOfV : List Arc → List Arc
 arcsOfV rest = arc 0 0 1 (writes 1 1 ∷ []) ∷ arc 0 1 1 (writes 1 2 ∷ []) ∷ arc 1 2 1 readZero ∷ arc 1 0 2 (reads 1 1 ∷ []) ∷ rest
 

@@ -1,6 +1,4 @@
 -- Packing: one configuration in one word: packing is injective, and registers are read and written in place.
-
--- ---- one register of a word
 use mathlib.Core.Path.{_∙_, _≡_, ap, ap₂, refl, sym}
 use Prim.Native.Nat.{_%_, _*_, _+_, _-_, _/_, _<_, _^_, _≤_, suc, zero, ℕ}
 use lib.Bits.{and-mask, bitAnd}
@@ -12,6 +10,7 @@ use native.Mathlib.Omega.{arith}
 use Rattle.automata.specs.Lists.{Each}
 use Rattle.explore.specs.Packed.{digit, digitPut, packContents}
 
+-- ---- one register of a word
 pub nib : (n : ℕ) → bitAnd n 15 ≡ n % 16
 nib n = and-mask n 4
 

@@ -34,7 +34,8 @@ use memory::fill;
 use memory::get16;
 use memory::put16;
 
-// Every arc that passes from configuration c, along the chain of its state. The first operation that fails drops the arc.
+// Every arc that passes from configuration c, along the chain of its state. The first operation that fails drops the arc: the walk goes
+// on with the next one from inside the loop over the operations (`operations::pass` performs an arc alone).
 // Cost: one step for each operation of the arcs that leave the state of c, and what `arrive` takes for each that passes.
 fn explore_one(
     file: &[u8],

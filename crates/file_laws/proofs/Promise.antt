@@ -1,5 +1,5 @@
 -- Promise: what a caller may rely on, of any list of bytes s that `read` is handed and of any automaton x.
--- `read` answers `readingOf` of the file (specs/Reading.antt): its contract is that equation.
+-- `read` answers `readingOf` of the file (crates/format/specs/Reading.antt): its contract is that equation.
 use mathlib.Core.Path.{_≡_, refl, sym, ap, _∙_, subst}
 use mathlib.Core.Logic.{_↔_, _≢_}
 use mathlib.Core.List.{List, _++_}

@@ -1,5 +1,5 @@
 // format: reading the file of an automaton (document 01, 'The book file', and its refusals 1 to 9).
-// Each function computes one definition of specs/. proofs/Promise.antt says what callers may rely on.
+// Each function computes one definition of specs/. crates/file_laws/proofs/Promise.antt says what callers may rely on.
 ghost use mathlib.Core.Path.{_≡_};
 ghost use Rattle.format.specs.Reading.{readingOf, numberOf};
 

@@ -1,5 +1,5 @@
 -- Searching: what exploring the pairs of two automata asks of the words, and what it leaves there. The automata stand in blocks
--- (crate table, specs/Stepping.antt), each with the number of its configurations and of its plain arcs; both have a letters.
+-- (crate stepping, specs/Stepping.antt), each with the number of its configurations and of its plain arcs; both have a letters.
 use mathlib.Core.Path.{_≡_}
 use mathlib.Core.Bool.{Bool}
 use mathlib.Core.List.{List, [], _∷_}

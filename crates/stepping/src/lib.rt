@@ -81,8 +81,8 @@ pub fn end_of(w: &[u64], base: usize, count: usize, plain: usize, c: usize) -> u
     }
 }
 
-// The live set after one more letter, for each letter, of a set that no empty move leaves: in the row of that letter from `acc` on, or empty where the mask that is
-// answered lacks it. The arcs of each live configuration are visited once, whatever the number of letters.
+// The live set after one more letter, for each letter, of a set that no empty move leaves: in the row of that letter from `acc` on, or
+// empty where the mask that is answered lacks it. The arcs of each live configuration are visited once, whatever the number of letters.
 // Cost: one row for each arc of a live configuration.
 pub fn step(
     w: &mut [u64],

@@ -19,8 +19,8 @@ use super::visit;
 use explore::map::BLOCK_ARCS;
 use explore::map::BLOCK_STARTS;
 
-// Does the arc, of a letter and with a target's row that is not inside the letter's set so far, add anything? Empty moves are in the
-// rows, and their letter, 255, is no letter's number.
+// Does the arc add anything: has it a letter, and is its target's row not inside that letter's set so far? Empty moves are in the rows,
+// and their letter, 255, is no letter's number.
 // Cost: constant.
 fn adds(w: &[u64], base: usize, acc: usize, met: u64, arc: usize) -> bool
     requires { ⌜ Room (now w) base acc ⌝ }
@@ -90,7 +90,7 @@ fn prune_one(
 // Drops the listed arcs that add nothing, of each configuration. Answers how many are left. They are written down in place: where one
 // is written is never behind where one is read. Where there are fewer than two for each configuration, all stay: the test would take
 // longer than what it saves.
-// Cost: two rows for each arc, and one for each of another configuration.
+// Cost: two rows for each arc, and one more for each arc of the first configuration in the row of its own.
 pub fn prune(w: &mut [u64], base: usize, acc: usize, count: usize, plain: usize) -> usize
     requires { ⌜ (acc + 256 ≤ base) × ((blockEnd base ≤ length (now w)) × Starts (now w) base count plain) ⌝ }
     ensures kept { λ _. ⌜ KeptBut acc (acc + 256) (arcsAt base) (blockEnd base) (now (w .entry)) (now (w .exit)) ⌝ }
