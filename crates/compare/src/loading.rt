@@ -10,18 +10,13 @@ ghost use Rattle.compare.specs.Answers.{FilesAnswer, Loaded, firstTests,
 use super::Comparison;
 use super::deciding::decide;
 use explore::Explored;
+use explore::map::FIRST_BLOCK;
+use explore::map::FIRST_SETS;
+use explore::map::SECOND_BLOCK;
 use format::Counts;
 use stepping::pruning::prune;
 use table::block::build;
 use table::finals::final_set;
-
-// Where the blocks stand (crate pairs, specs/Map.antt).
-const FIRST_BLOCK: usize = 4992;
-
-const SECOND_BLOCK: usize = 6592;
-
-// Where the sets of the letters stand while a block is pruned.
-const LETTER_SETS: usize = 4480;
 
 // The first automaton is built already, and f is the set of its final configurations; the second is built now, and both are compared.
 // Cost: what building and comparing take.
@@ -58,7 +53,7 @@ fn compare_second(
         };
     }
     let g = final_set(second, b, w, more);
-    let left = prune(w, SECOND_BLOCK, LETTER_SETS, more, listed);
+    let left = prune(w, SECOND_BLOCK, FIRST_SETS, more, listed);
     let end = 12 + a.letters;
     decide(w, count, plain, f, more, left, g, &first[12..end], word)
 }
@@ -95,6 +90,6 @@ pub fn compare_files(
         };
     }
     let f = final_set(first, a, w, count);
-    let left = prune(w, FIRST_BLOCK, LETTER_SETS, count, plain);
+    let left = prune(w, FIRST_BLOCK, FIRST_SETS, count, plain);
     compare_second(first, a, count, left, f, second, b, w, word)
 }

@@ -14,3 +14,12 @@ pub const CONFIG_NEXTS: usize = 3520;
 pub const BLOCK_ARCS: usize = 1024;
 
 pub const BLOCK_STARTS: usize = 1536;
+
+// Above the tables of the building: the sets of the letters that a step leaves, and the blocks; of one automaton or of two.
+pub const FIRST_SETS: usize = 4480;
+
+pub const SECOND_SETS: usize = 4736;
+
+pub const FIRST_BLOCK: usize = 4992;
+
+pub const SECOND_BLOCK: usize = 6592;

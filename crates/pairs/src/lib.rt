@@ -16,9 +16,9 @@ use sets::rows::store;
 use sets::same;
 
 // Where the table stands (specs/Map.antt).
-const PARENTS: usize = 4096;
+pub const PARENTS: usize = 4096;
 
-const PAIR_HEADS: usize = 4224;
+pub const PAIR_HEADS: usize = 4224;
 
 const PAIR_NEXTS: usize = 4352;
 

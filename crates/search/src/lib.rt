@@ -17,23 +17,17 @@ ghost use Rattle.pairs.specs.Map.{pairsEnd, firstSets, secondSets, firstBlock};
 ghost use Rattle.pairs.specs.Entries.{Side, along, begin, alike, Holds};
 ghost use Rattle.pairs.specs.Pairs.{PairChain, Met};
 ghost use Rattle.search.specs.Searching.{Ready, Table, Grows, EmptyPair, Both, LetterSets, Outcome};
+use explore::map::FIRST_BLOCK;
+use explore::map::FIRST_SETS;
+use explore::map::SECOND_BLOCK;
+use explore::map::SECOND_SETS;
 use pairs::Grown;
+use pairs::PAIR_HEADS;
 use pairs::add_pair;
 use pairs::meet;
 use sets::rows::load;
 use stepping::set_of;
 use stepping::step;
-
-// Where the chains of the pairs, the sets of the letters and the blocks stand (crate pairs, specs/Map.antt).
-const PAIR_HEADS: usize = 4224;
-
-const FIRST_SETS: usize = 4480;
-
-const SECOND_SETS: usize = 4736;
-
-const FIRST_BLOCK: usize = 4992;
-
-const SECOND_BLOCK: usize = 6592;
 
 // Is letter l met by neither side?
 // Cost: constant.

@@ -10,9 +10,7 @@ ghost use Rattle.pairs.specs.Entries.{Holds, Side};
 ghost use Rattle.sets.specs.Rows.{row};
 ghost use Rattle.sets.specs.Sets.{Within, view};
 ghost use Rattle.shown.specs.Spelled.{Climb, alone, differsBy, wordOf};
-
-// Where the fields of parents stand: parent times 64 plus letter.
-const PARENTS: usize = 4096;
+use pairs::PARENTS;
 
 // Which automaton alone accepts the words of pair i: 1, 2, or 0 where both or neither do. f and g are the final sets of the two.
 // Cost: constant.

@@ -4,15 +4,13 @@ ghost use lib.ListN.{length};
 ghost use Rattle.table.specs.Membership.{membershipOf};
 use block::build;
 use explore::Explored;
+use explore::map::FIRST_BLOCK;
 use words::judge_word;
 
 pub mod block;
 pub mod file_steps;
 pub mod finals;
 pub mod words;
-
-// Where the block of the automaton stands.
-const BLOCK: usize = 4992;
 
 // What membership answers: whether the word is accepted, with the number of configurations live after it; or the number of a
 // refusal and the automaton at fault.
@@ -45,9 +43,9 @@ pub fn accepts(file: &[u8], word: &[u8], work: &mut [u64]) -> Membership
     let Explored::Tables {
         configurations: known,
         plain,
-    } = build(file, c, work, BLOCK)
+    } = build(file, c, work, FIRST_BLOCK)
     else {
         return Membership::Refused(21, 1);
     };
-    judge_word(file, c, word, work, BLOCK, known, plain)
+    judge_word(file, c, word, work, FIRST_BLOCK, known, plain)
 }

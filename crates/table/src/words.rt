@@ -16,14 +16,12 @@ ghost use Rattle.table.specs.Membership.{judged};
 use super::Membership;
 use super::file_steps::step_file;
 use super::finals::final_set;
+use explore::map::FIRST_SETS;
 use format::Counts;
 use format::letters::Letter;
 use letter_chains::follow;
 use letter_chains::link;
 use stepping::set_of;
-
-// Where the sets of the letters stand.
-const LETTER_SETS: usize = 4480;
 
 // The live set after the letter l: by the listed arcs with that letter where all plain arcs are listed, else by the arcs in the file.
 // Cost: one step for each listed arc with the letter; where they are not listed, one for each operation of the arcs that leave the state
@@ -46,8 +44,8 @@ fn step_letter(
     if plain <= 2048 {
         return follow(w, base, plain, set, l);
     }
-    let met = step_file(file, c, w, base, LETTER_SETS, count, set);
-    set_of(w, LETTER_SETS, met, l)
+    let met = step_file(file, c, w, base, FIRST_SETS, count, set);
+    set_of(w, FIRST_SETS, met, l)
 }
 
 // The live set of a word, from the set `from` on, of the automaton whose file has the counts c; empty where a byte is no letter.

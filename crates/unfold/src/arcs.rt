@@ -6,15 +6,12 @@ ghost use Rattle.format.specs.Encoding.{arcsBytes};
 ghost use Rattle.stepping.specs.Stepping.{Starts};
 ghost use Rattle.writing.specs.Placing.{Appended};
 ghost use Rattle.unfold.specs.Listed.{arcsListed, arcsOfMany};
+use explore::map::BLOCK_ARCS;
+use explore::map::BLOCK_STARTS;
 use memory::get16;
 use stepping::end_of;
 use writing::arcs::Fields;
 use writing::arcs::write_plain_arc;
-
-// Where a block has its plain arcs and their starts, from its first word on.
-const ARCS: usize = 1024;
-
-const STARTS: usize = 1536;
 
 // The arcs listed from number `from` to before `to`, all from the configuration `source`. Cost: their bytes.
 fn write_some(
@@ -32,7 +29,7 @@ fn write_some(
     let mut next = at;
     let mut i = from;
     while i < to {
-        let entry = get16(w, base + ARCS, i);
+        let entry = get16(w, base + BLOCK_ARCS, i);
         let f = Fields {
             source,
             letter: entry / 256,
@@ -59,7 +56,7 @@ pub fn write_arcs(
     let mut next = at;
     let mut s: usize = 0;
     while s < known {
-        let from = get16(w, base + STARTS, s);
+        let from = get16(w, base + BLOCK_STARTS, s);
         let to = end_of(w, base, known, plain, s);
         next = write_some(out, next, w, base, s, from, to);
         s += 1;

@@ -8,6 +8,7 @@ ghost use Rattle.format.specs.Encoding.{bytesOf};
 ghost use Rattle.writing.specs.Answers.{outputOf};
 ghost use Rattle.unfold.specs.Unfolding.{unfoldingOf};
 use explore::Explored;
+use explore::map::FIRST_BLOCK;
 use explore::walk::explore_all;
 use result::write_result;
 use writing::Written;
@@ -15,9 +16,6 @@ use writing::Written;
 mod arcs;
 mod flags;
 mod result;
-
-// Where the block of the automaton stands.
-const BLOCK: usize = 4992;
 
 // Writes an automaton that accepts the words of the file's and has one register, which nothing writes: its states are the
 // configurations that runs reach, numbered as they are met, and its arcs are the arcs that pass there, repeats kept. Answers its
@@ -43,9 +41,9 @@ pub fn unfold(file: &[u8], work: &mut [u64], out: &mut [u8]) -> Written
     let Explored::Tables {
         configurations: known,
         plain,
-    } = explore_all(file, c, work, BLOCK)
+    } = explore_all(file, c, work, FIRST_BLOCK)
     else {
         return Written::Refused(21, 1);
     };
-    write_result(out, file, c, work, BLOCK, known, plain)
+    write_result(out, file, c, work, FIRST_BLOCK, known, plain)
 }
