@@ -7,6 +7,5 @@ pub mod EncodingLaws
 pub mod CanonicalLaws
 pub mod RefusalLaws
 pub mod FrontLaws
-pub mod ByteLaws
 pub mod ArcLaws
 pub mod Fitting

@@ -102,10 +102,6 @@ pub field-same : (w w' : List ℕ) (base k : ℕ) → getD w' (base + k / 4) 0 �
 unfolding field
 field-same w w' base k e = ap (λ (x : ℕ). digitOf x (k % 4)) e
 
-pub field-lt : (w : List ℕ) (base k : ℕ) → field w base k < 65536
-unfolding field
-field-lt w base k = omega arith
-
 -- field k is written
 pub put-field : (w : List ℕ) (base k v : ℕ) → base + k / 4 < length w → v < 65536 → (j : ℕ)
     → field (set w (base + k / 4) (putOf (getD w (base + k / 4) 0) (k % 4) v)) base j ≡ cond (eqb j k) v (field w base j)

@@ -1,8 +1,8 @@
 -- Laws: the laws of this crate that callers cite.
 -- frames: what was written where, and what is as it was
 pub use Rattle.memory.proofs.FrameLaws.{kept-same, kept-then, kept-wider, kept-set, kept-other, beside, beside-kept}
--- a field whose word is as it was; a field's size
-pub use Rattle.memory.proofs.FieldLaws.{field-same, field-lt}
+-- a field whose word is as it was
+pub use Rattle.memory.proofs.FieldLaws.{field-same}
 -- chains start with filled heads, and stay while their words and keys do; `push` itself says how an entry joins
 pub use Rattle.memory.proofs.ChainLaws.{last-is, chain-start, chain-kept}
 -- a walk along a chain sees the entries with the key, the last first

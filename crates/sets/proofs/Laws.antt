@@ -3,7 +3,7 @@
 pub use Rattle.sets.proofs.SetLaws.{Four, four, empty-set}
 pub use Rattle.sets.proofs.Views.{set-ext}
 -- a set as the list of tests that Live calls a set
-pub use Rattle.sets.proofs.Views.{length-view, in-view, view-is, view-inj, meets-view, count-within}
+pub use Rattle.sets.proofs.Views.{length-view, in-view, view-is, meets-view, count-within}
 pub use Rattle.sets.proofs.Tables.{table-ext, count-none}
 -- one digit of a word, tested and set by the mask `1 << k`
 pub use Rattle.sets.proofs.Bits.{has-bit, bit-with, bit-zero}

@@ -38,12 +38,6 @@ set-ext {s} {t} fs ft h =
     ext-getD 0 s t (fs .long ∙ sym (ft .long))
     (λ q l. same-bits 64 (getD s q 0) (getD t q 0) (fs .fits q) (ft .fits q) (λ i m. sym (place s q i m) ∙ h (64 * q + i) ∙ place t q i m))
 
--- equal views, of sets of numbers below n, are the same words
-pub view-inj : {n : ℕ} {s t : List ℕ} → Four s → Four t → Within n s → Within n t → view n s ≡ view n t → s ≡ t
-view-inj {n} {s} {t} fs ft ws wt e =
-    set-ext fs ft (λ j. bool-ext (inSet s j) (inSet t j)
-    (λ x. in-view n t j .0 (rw e at (in-view n s j .1 (ws j x, x))) .1) (λ x. in-view n s j .0 (rw (← e) at (in-view n t j .1 (wt j x, x))) .1))
-
 -- `meets` answers what the definition does, for a set of numbers below n
 pub meets-view : {n : ℕ} (a b : List ℕ) {r : Bool} → Within n a → T r ↔ ((j : ℕ) × T (inSet a j) × T (inSet b j)) → r ≡ meets (view n a) (view n b)
 meets-view {n} a b {r} w h =

@@ -34,12 +34,6 @@ module _ {text : List ℕ} {at end : ℕ} {old new : List ℕ} (w : Writes text 
       go (yes h) = ap length (w .holds) ∙ length-paste old at text (fitting text at old) (omega arith) (omega arith)
       go (no h) = ap length (unchanged (omega arith))
 
-  -- a text that has room is written whole, and the bytes before and behind it stay
-  pub whole : at + length text ≤ length old → (end ≡ at + length text) × (new ≡ take at old ++ (text ++ drop (at + length text) old))
-  whole h =
-      let all : fitting text at old ≡ length text = omega arith in
-      (omega (arith, w .ends), w .holds ∙ rw (all, take-length, append-assoc (take at old)))
-
 -- ---- one part behind another
 -- the front of two texts, where the second begins only behind the whole first
 take-both : (a b : List ℕ) (i j : ℕ) → i ≤ length a → (i < length a → j ≡ 0) → take (i + j) (a ++ b) ≡ take i a ++ take j b
