@@ -15,16 +15,17 @@ use Rattle.explore.specs.Explores.{exploredOf}
 use Rattle.explore.specs.declared.Explored.the-variants.{Tables, TooMany}
 use Rattle.format.specs.Decoding.{automatonOf}
 use Rattle.format.specs.Reading.{numberOf, readingOf}
+use Rattle.format.specs.Refusals.{faultOf, unlessRefused}
 use Rattle.format.specs.declared.Counts.{Counts}
 use Rattle.format.specs.declared.Reading.{Reading}
 use Rattle.format.specs.declared.Reading.the-variants.{Refused as Faulty, Valid}
-use Rattle.file_laws.proofs.Promise.{number-range}
+use Rattle.file_laws.proofs.Refusals.{has-fault}
 use Rattle.joining.specs.Joining.{Joinable, filesOf, paired, sameLetters}
 use Rattle.joining.specs.declared.files.Files.the-variants.{Fault}
 use Rattle.table.proofs.Building.{explored-few, explored-many}
 use Rattle.compare.specs.Answers.{Answers, firstTests, limitTests}
 use Rattle.compare.specs.Compares.{Compares}
-use Rattle.compare.specs.Comparing.{automataTests, comparisonOf, faultOf, tests, unlessRefused}
+use Rattle.compare.specs.Comparing.{automataTests, comparisonOf, tests}
 use Rattle.compare.specs.declared.Comparison.{Comparison}
 use Rattle.compare.specs.declared.Comparison.the-variants.{Refused}
 
@@ -70,12 +71,12 @@ module _ (first second : List ℕ) where
             let j : i ≡ n = cc in
             let k : 1 ≡ b = cc in
             let z : faultOf first ≡ i = ap numberOf p in
-            rw (← j, ← k, ← z) (stopped _ (faultOf first) 1 old (lt-ltb 0 (faultOf first) (omega (arith, number-range first i p .0))))
+            rw (← j, ← k, ← z) (stopped _ (faultOf first) 1 old (lt-ltb 0 (faultOf first) (has-fault first i p)))
         go (Valid c) p (Faulty i) q t s f =
             let j : i ≡ n = cc in
             let k : 2 ≡ b = cc in
             let z : faultOf second ≡ i = ap numberOf q in
-            rw (← j, ← k, ← z) (passed _ (faultOf first) 1 (le-ltb 0 (faultOf first) (omega (arith, ap numberOf p))) (stopped _ (faultOf second) 2 old (lt-ltb 0 (faultOf second) (omega (arith, number-range second i q .0)))))
+            rw (← j, ← k, ← z) (passed _ (faultOf first) 1 (le-ltb 0 (faultOf first) (omega (arith, ap numberOf p))) (stopped _ (faultOf second) 2 old (lt-ltb 0 (faultOf second) (has-fault second i q))))
         go (Valid c) p (Valid d) q false s f =
             let j : 10 ≡ n = cc in
             let k : 0 ≡ b = cc in

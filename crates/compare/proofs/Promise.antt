@@ -1,10 +1,9 @@
 -- Promise: what the contract of comparing says of the bytes handed in (demand 3, and the exact condition of each refusal).
 use mathlib.Core.Path.{_≡_, refl, sym, ap, _∙_, subst}
-use mathlib.Core.Logic.{_↔_, _⊎_, inl, inr, ⊎-elim}
+use mathlib.Core.Logic.{_↔_, inl, inr, ⊎-elim}
 use mathlib.Core.Bool.{Bool, cond, false, true}
 use mathlib.Core.List.{List}
-use Prim.Native.Nat.{ℕ, _≤_, _<_}
-use native.Mathlib.Decide.{decLt}
+use Prim.Native.Nat.{ℕ, _<_}
 use native.Mathlib.Omega.{arith}
 use lib.Dec.{T, eqb}
 use lib.ListN.{drop, length, length-append, take}
@@ -17,23 +16,15 @@ use Rattle.automata.proofs.Laws.{comparing, comparing-more, reaching-more}
 use Rattle.automata.proofs.LanguageLaws.{same-language}
 use Rattle.automata.proofs.ListLaws.{eqb-iff, sameBy-iff}
 use Rattle.format.specs.Decoding.{automatonOf}
-use Rattle.format.specs.Reading.{numberOf, readingOf}
-use Rattle.format.specs.declared.Reading.{Reading}
-use Rattle.format.specs.declared.Reading.the-variants.{Refused as Fault, Valid}
-use Rattle.file_laws.proofs.Promise.{number-range, valid-automaton}
-use Rattle.compare.specs.Comparing.{answerAt, bufferOf, comparedAt, comparisonOf, faultOf, tests, told, unlessRefused}
+use Rattle.format.specs.Refusals.{FirstHolds, faultOf, unlessRefused}
+use Rattle.file_laws.proofs.Promise.{valid-automaton}
+use Rattle.file_laws.proofs.Refusals.{NoneHolds, Outcome, at-least, first-exactly, first-some, no-fault, none-first, refused-or-not}
+use Rattle.compare.specs.Comparing.{answerAt, bufferOf, comparedAt, comparisonOf, tests, told}
 use Rattle.compare.specs.Compares.{Compares, Shown, ShownBy}
-use Rattle.compare.specs.Promised.{FirstHolds, OneRule, Premises, Promised, conditions}
+use Rattle.compare.specs.Promised.{OneRule, Premises, Promised, conditions}
 use Rattle.compare.specs.declared.Comparison.{Comparison}
 use Rattle.compare.specs.declared.Comparison.the-variants.{Refused}
-use Rattle.compare.proofs.Refusals.{NoneHolds, refused-or-not, refuses-first, tests-decide}
-
-at-least : (m n : ℕ) → ¬ (m < n) → n ≤ m
-at-least m n h = go (decLt m n)
-  where
-    go : Dec (m < n) → n ≤ m
-    go (yes l) = absurd (h l)
-    go (no l) = omega arith
+use Rattle.compare.proofs.Refusals.{tests-decide}
 
 not-other : (u v : List ℕ) → ¬ (¬ (u ≡ v)) → u ≡ v
 not-other u v h = go (sameBy eqb u v) (sameBy-iff eqb eqb-iff u v)
@@ -86,11 +77,7 @@ module _ (first second : List ℕ) (words buffer : ℕ) (p : Premises first seco
   y = automatonOf second
 
   well-formed : (file : List ℕ) → faultOf file ≡ 0 → WellFormed (automatonOf file)
-  well-formed file z = go (readingOf file) refl
-    where
-      go : (r : Reading) → readingOf file ≡ r → WellFormed (automatonOf file)
-      go (Valid c) e = valid-automaton file c e .0
-      go (Fault n) e = absurd (omega (arith, number-range file n e .0, ap numberOf e))
+  well-formed file z = let v = no-fault file z in valid-automaton file (v .0) (v .1) .0
 
   right : Right x y 256 (verdict x y 256 512)
   right = comparing x y 256 512 (well-formed first (p .valid₁)) (well-formed second (p .valid₂)) (ap length (sym (p .same-letters)))
@@ -113,32 +100,35 @@ module _ (first second : List ℕ) (words : ℕ) (old new : List ℕ) where
   abbrev takerOf : Automaton → List ℕ → ℕ
   takerOf x word = cond (acceptedBytes x 256 word) 1 2
 
-  abbrev Refuses : Comparison → Type 0
-  Refuses r = (n b : ℕ) → 0 < n → ((told r .number ≡ n) × (told r .automaton ≡ b)) ↔ FirstHolds (conditions first second words (length old)) n b
+  abbrev cs : List (Type 0 × ℕ × ℕ)
+  cs = conditions first second words (length old)
 
-  refused : (n b : ℕ) → 0 < n → ¬ Premises first second words (length old) → Refuses (Refused n b) → new ≡ old → Promised first second words old new (told (Refused n b))
-  refused n b pos none due e = record {
+  refused : (n b : ℕ) → 0 < n → FirstHolds cs n b → new ≡ old → Promised first second words old new (told (Refused n b))
+  refused n b pos f e = record {
     answers = (λ z. absurd (omega arith), λ p. absurd (none p));
     same = (λ t. absurd t, λ p. none (p .0));
     different = (λ t. absurd t, λ p. none (p .0));
     shows = λ t. absurd t;
     counts = λ p. absurd (none p);
-    refuses = due;
+    refuses = first-exactly cs f;
     behind = e;
     none-shown = λ _. refl;
     whole = omega arith;
   }
+    where
+      none : ¬ Premises first second words (length old)
+      none p = first-some cs n b pos f (none-of first second words (length old) p)
 
   -- the answer of a right verdict
-  answered : (v : Verdict) → Right x₁ x₂ 256 v → Premises first second words (length old) → (taker : ℕ) (word : List ℕ) → Refuses (answerAt v taker (length word))
+  answered : (v : Verdict) → Right x₁ x₂ 256 v → Premises first second words (length old) → (taker : ℕ) (word : List ℕ)
       → new ≡ bufferOf (answerAt v taker (length word)) word old → ShownBy x₁ x₂ word (answerAt v taker (length word)) → Promised first second words old new (told (answerAt v taker (length word)))
-  answered (same n) r p taker word due e s = record {
+  answered (same n) r p taker word e s = record {
     answers = (λ _. p, λ _. refl);
     same = (λ _. (p, one), λ _. tt);
     different = (λ t. absurd t, λ q. q .1 one);
     shows = λ t. absurd t;
     counts = λ _. r .0;
-    refuses = due;
+    refuses = first-exactly cs (none-first cs (none-of first second words (length old) p));
     behind = e;
     none-shown = λ _. refl;
     whole = omega arith;
@@ -146,32 +136,29 @@ module _ (first second : List ℕ) (words : ℕ) (old new : List ℕ) where
     where
       one : OneRule x₁ x₂
       one = same-language x₁ x₂ (sym (p .same-letters)) (r .1)
-  answered (different n k v) r p taker word due e s = record {
+  answered (different n k v) r p taker word e s = record {
     answers = (λ _. p, λ _. refl);
     same = (λ t. absurd t, λ q. not-one-rule x₁ x₂ taker word s (q .1));
     different = (λ _. (p, not-one-rule x₁ x₂ taker word s), λ _. tt);
     shows = λ _. subst (λ (l : List ℕ). Shown x₁ x₂ taker l) (sym (ap (take (length word)) e ∙ take-at word _ (length word) refl)) s;
     counts = λ _. r .0;
-    refuses = due;
+    refuses = first-exactly cs (none-first cs (none-of first second words (length old) p));
     behind = ap (drop (length word)) e ∙ drop-at word (drop (length word) old) (length word) refl;
     none-shown = λ h. absurd (h tt);
     whole = omega (arith, ap length e, length-append word (drop (length word) old));
   }
 
   opened : (word : List ℕ) → comparisonOf first second words (length old) word
-      ≡ unlessRefused (tests 256 2048 512 first second words (length old)) (answerAt (verdict x₁ x₂ 256 512) (takerOf x₁ word) (length word))
+      ≡ unlessRefused Refused (tests 256 2048 512 first second words (length old)) (answerAt (verdict x₁ x₂ 256 512) (takerOf x₁ word) (length word))
   unfolding comparisonOf comparedAt
   opened word = refl
 
   -- THE PROMISE of comparing.
   pub comparing-promised : (r : Comparison) → Compares first second words old new r → Promised first second words old new (told r)
-  comparing-promised r c = either (refused-or-not all cs (tests-decide first second words (length old)) answer)
+  comparing-promised r c = either (refused-or-not Refused answer all cs (tests-decide first second words (length old)))
     where
       all : List (Bool × ℕ × ℕ)
       all = tests 256 2048 512 first second words (length old)
-
-      cs : List (Type 0 × ℕ × ℕ)
-      cs = conditions first second words (length old)
 
       taker : ℕ
       taker = takerOf x₁ (c .word)
@@ -179,26 +166,18 @@ module _ (first second : List ℕ) (words : ℕ) (old new : List ℕ) where
       answer : Comparison
       answer = answerAt (verdict x₁ x₂ 256 512) taker (length (c .word))
 
-      whole-answer : r ≡ unlessRefused all answer
+      whole-answer : r ≡ unlessRefused Refused all answer
       whole-answer = c .answer ∙ opened (c .word)
 
-      number-none : (v : Verdict) → told (answerAt v taker (length (c .word))) .number ≡ 0
-      number-none (same n) = refl
-      number-none (different n k v) = refl
+      left : (a : Comparison) → r ≡ a → new ≡ bufferOf a (c .word) old
+      left a e = subst (λ (a : Comparison). new ≡ bufferOf a (c .word) old) e (c .buffer)
 
-      due : (a : Comparison) → r ≡ a → Refuses a
-      due a e = subst Refuses (sym whole-answer ∙ e) (refuses-first all cs (tests-decide first second words (length old)) answer (number-none (verdict x₁ x₂ 256 512)))
-
-      either : (NoneHolds cs × (unlessRefused all answer ≡ answer)) ⊎ ((¬ NoneHolds cs) × ((n : ℕ) × (b : ℕ) × (unlessRefused all answer ≡ Refused n b) × (0 < n)))
-          → Promised first second words old new (told r)
+      either : Outcome Refused answer cs (unlessRefused Refused all answer) → Promised first second words old new (told r)
       either (inl h) =
           let e = whole-answer ∙ h .1 in
           let p = premises-of first second words (length old) (h .0) in
           subst (λ (a : Comparison). Promised first second words old new (told a)) (sym e)
-          (answered (verdict x₁ x₂ 256 512) (right first second words (length old) p) p taker (c .word) (due answer e)
-          (subst (λ (a : Comparison). new ≡ bufferOf a (c .word) old) e (c .buffer)) (subst (ShownBy x₁ x₂ (c .word)) e (c .shown)))
+          (answered (verdict x₁ x₂ 256 512) (right first second words (length old) p) p taker (c .word) (left answer e) (subst (ShownBy x₁ x₂ (c .word)) e (c .shown)))
       either (inr h) =
-          let e = whole-answer ∙ h .1 .2 in
-          subst (λ (a : Comparison). Promised first second words old new (told a)) (sym e)
-          (refused (h .1 .0) (h .1 .1) (h .1 .3) (λ p. h .0 (none-of first second words (length old) p)) (due (Refused (h .1 .0) (h .1 .1)) e)
-          (subst (λ (a : Comparison). new ≡ bufferOf a (c .word) old) e (c .buffer)))
+          let e = whole-answer ∙ h .4 in
+          subst (λ (a : Comparison). Promised first second words old new (told a)) (sym e) (refused (h .0) (h .1) (h .2) (h .3) (left (Refused (h .0) (h .1)) e))

@@ -8,9 +8,10 @@ use Rattle.automata.specs.Automaton.{Automaton, WellFormed}
 use Rattle.automata.specs.Pairs.{Right, Shows, Verdict, different, pairs, same, verdict}
 use Rattle.automata.specs.Unfolding.{acceptedBytes, configurations}
 use Rattle.automata.proofs.Laws.{comparing}
+use Rattle.format.specs.Refusals.{unlessRefused}
 use Rattle.compare.specs.Answers.{Answers, pairTest}
 use Rattle.compare.specs.Compares.{Shown}
-use Rattle.compare.specs.Comparing.{answerAt, comparedAt, unlessRefused}
+use Rattle.compare.specs.Comparing.{answerAt, comparedAt}
 use Rattle.compare.specs.declared.Comparison.the-variants.{Different, Refused, Same}
 use Rattle.compare.proofs.ShownBytes.{bytes-spell, oneTwo, shown-taker, shows-shown}
 
@@ -21,7 +22,7 @@ module _ (x y : Automaton) (L P : ℕ) where
 
   -- nothing is refused: the verdict tells the answer
   told : (word : List ℕ) (v : Verdict) → length (pairs x y L P) ≤ P → verdict x y L P ≡ v
-      → answerAt v (oneTwo (acceptedBytes x L word)) (length word) ≡ unlessRefused (pairTest L P x y) (comparedAt L P x y word)
+      → answerAt v (oneTwo (acceptedBytes x L word)) (length word) ≡ unlessRefused Refused (pairTest L P x y) (comparedAt L P x y word)
   unfolding unlessRefused comparedAt
   told word v h e = rw (le-ltb P (length (pairs x y L P)) h, e)
 

@@ -10,12 +10,14 @@ use Rattle.automata.specs.Automaton.{Automaton, WellFormed}
 use Rattle.automata.specs.Pairs.{pairs}
 use Rattle.automata.specs.Unfolding.{configurations, finalSet, plainArcs}
 use Rattle.format.specs.Decoding.{automatonOf}
+use Rattle.format.specs.Refusals.{unlessRefused}
 use Rattle.pairs.specs.Map.{firstBlock, secondBlock}
 use Rattle.sets.specs.Sets.{view}
 use Rattle.table.specs.Words.{Built}
 use Rattle.compare.specs.Compares.{ShownBy}
-use Rattle.compare.specs.Comparing.{bufferOf, comparedAt, unlessRefused}
+use Rattle.compare.specs.Comparing.{bufferOf, comparedAt}
 use Rattle.compare.specs.declared.Comparison.{Comparison}
+use Rattle.compare.specs.declared.Comparison.the-variants.{Refused}
 
 -- ---- the tests that are left
 -- 23, more than P pairs
@@ -37,7 +39,7 @@ firstTests L M P x y = limitTests L M x 1 (secondTests L M P x y)
 -- some test on
 pub record Answers (L P : ℕ) (left : List (Bool × ℕ × ℕ)) (x y : Automaton) (old new : List ℕ) (r : Comparison) : Type 0 where
   pub word : List ℕ
-  pub answer : r ≡ unlessRefused left (comparedAt L P x y word)
+  pub answer : r ≡ unlessRefused Refused left (comparedAt L P x y word)
   pub buffer : new ≡ bufferOf r word old
   pub shown : ShownBy x y word r
 

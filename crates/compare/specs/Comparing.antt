@@ -10,15 +10,11 @@ use Rattle.automata.specs.Lists.{sameBy}
 use Rattle.automata.specs.Pairs.{Verdict, different, pairs, same, verdict}
 use Rattle.automata.specs.Unfolding.{acceptedBytes, configurations, plainArcs}
 use Rattle.format.specs.Decoding.{automatonOf}
-use Rattle.format.specs.Reading.{numberOf, readingOf}
+use Rattle.format.specs.Refusals.{faultOf, unlessRefused}
 use Rattle.compare.specs.declared.Comparison.{Comparison}
 use Rattle.compare.specs.declared.Comparison.the-variants.{Different, Refused, Same}
 
 -- ---- the refusals in their order: a test, and where it holds the number of the refusal and the automaton at fault
--- the number of a file's fault, 0 of a valid file
-abbrev pub faultOf : List ℕ → ℕ
-faultOf file = numberOf (readingOf file)
-
 -- of two automata: 10, the letter lists differ; 21, more than L configurations, and 22, more than M plain arcs, of the first, then
 -- of the second; 23, more than P pairs
 unfoldable pub automataTests : (L M P : ℕ) → Automaton → Automaton → List (Bool × ℕ × ℕ)
@@ -40,11 +36,6 @@ tests L M P first second words buffer =
     ∷ (ltb 0 (faultOf second), faultOf second, 2)
     ∷ automataTests L M P (automatonOf first) (automatonOf second)
 
--- the refusal of the first test that holds, else the answer
-unfoldable pub unlessRefused : List (Bool × ℕ × ℕ) → Comparison → Comparison
-unlessRefused [] answer = answer
-unlessRefused (t ∷ l) answer = cond (t .0) (Refused (t .1) (t .2)) (unlessRefused l answer)
-
 -- ---- the answer
 -- same or different, and the number of pairs, are the verdict's; the automaton that accepts the shown word and its length are the word's
 abbrev pub answerAt : Verdict → (taker size : ℕ) → Comparison
@@ -58,7 +49,7 @@ comparedAt L P x y word = answerAt (verdict x y L P) (cond (acceptedBytes x L wo
 unfoldable pub comparisonOf : (first second : List ℕ) (words buffer : ℕ) (word : List ℕ) → Comparison
 unfolding tests unlessRefused comparedAt
 comparisonOf first second words buffer word =
-    unlessRefused (tests 256 2048 512 first second words buffer) (comparedAt 256 512 (automatonOf first) (automatonOf second) word)
+    unlessRefused Refused (tests 256 2048 512 first second words buffer) (comparedAt 256 512 (automatonOf first) (automatonOf second) word)
 
 -- what stands in the buffer afterwards: the shown word and then what was lent behind it; where no word is shown, what was lent
 abbrev pub bufferOf : Comparison → (word old : List ℕ) → List ℕ

@@ -11,7 +11,8 @@ use Rattle.automata.specs.Pairs.{SomePair}
 use Rattle.automata.specs.Unfolding.{plainArcs}
 use Rattle.automata.specs.Words.{Language}
 use Rattle.format.specs.Decoding.{automatonOf}
-use Rattle.compare.specs.Comparing.{Told, faultOf}
+use Rattle.format.specs.Refusals.{FirstHolds, faultOf}
+use Rattle.compare.specs.Comparing.{Told}
 use Rattle.compare.specs.Compares.{Shown}
 
 -- ---- document 01's refusals in their order: a condition, the number, and the automaton at fault
@@ -31,11 +32,6 @@ conditions first second words buffer =
     ∷ (0 < faultOf first, faultOf first, 1)
     ∷ (0 < faultOf second, faultOf second, 2)
     ∷ automataConditions (automatonOf first) (automatonOf second)
-
--- the first condition that holds has the number n and the automaton b
-abbrev pub FirstHolds : List (Type 0 × ℕ × ℕ) → ℕ → ℕ → Type 0
-FirstHolds [] n b = ⊥
-FirstHolds (c ∷ l) n b = (c .0 × (c .1 ≡ n) × (c .2 ≡ b)) ⊎ ((¬ c .0) × FirstHolds l n b)
 
 -- ---- demand 3
 -- its premises: both files are valid and list the same letters; each unfolds within 256 configurations and 2,048 plain arcs; words of
@@ -67,8 +63,8 @@ pub record Promised (first second : List ℕ) (words : ℕ) (old new : List ℕ)
   pub shows : T (t .different) → Shown (automatonOf first) (automatonOf second) (t .taker) (take (t .size) new)
   -- told either, the number is that of the distinct pairs of live sets over all words of the letters
   pub counts : Premises first second words (length old) → Counts (SomePair (automatonOf first) (automatonOf second) 256) (t .pairs)
-  -- each refusal has its number and its automaton at fault just under its condition, where none before it holds
-  pub refuses : (n b : ℕ) → 0 < n → ((t .number ≡ n) × (t .automaton ≡ b)) ↔ FirstHolds (conditions first second words (length old)) n b
+  -- each refusal has its number and its automaton at fault just where its condition is the first that holds; where none holds, both are 0
+  pub refuses : (n b : ℕ) → ((t .number ≡ n) × (t .automaton ≡ b)) ↔ FirstHolds (conditions first second words (length old)) n b
   -- the bytes behind the shown word are as they were lent; where none is shown, all are, its size being 0
   pub behind : drop (t .size) new ≡ drop (t .size) old
   pub none-shown : ¬ T (t .different) → t .size ≡ 0

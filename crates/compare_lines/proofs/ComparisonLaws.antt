@@ -9,10 +9,11 @@ use lib.Seq.{take-all, take-at}
 use Rattle.automata.specs.Pairs.{Verdict, different, same, verdict}
 use Rattle.automata.specs.Unfolding.{acceptedBytes}
 use Rattle.format.specs.Decoding.{automatonOf}
+use Rattle.format.specs.Refusals.{unlessRefused}
 use Rattle.text.specs.Digits.{decimalOf, hexOf}
 use Rattle.text.specs.Line.{ascii}
 use Rattle.text.specs.Writing.{Writes}
-use Rattle.compare.specs.Comparing.{answerAt, bufferOf, comparedAt, comparisonOf, tests, unlessRefused}
+use Rattle.compare.specs.Comparing.{answerAt, bufferOf, comparedAt, comparisonOf, tests}
 use Rattle.compare.specs.Compares.{Compares, ShownBy}
 use Rattle.compare.specs.declared.Comparison.{Comparison}
 use Rattle.compare.specs.declared.Comparison.the-variants.{Different, Refused, Same}
@@ -30,12 +31,12 @@ module _ (word old : List ℕ) where
   alike-answer (different n k v) taker = rw (take-at word (drop (length word) old) (length word) refl, take-all (length word) word (omega arith))
 
   -- of a list of refusals before it
-  alike-after : (l : List (Bool × ℕ × ℕ)) (v : Verdict) (taker : ℕ) → Alike word old (unlessRefused l (answerAt v taker (length word)))
+  alike-after : (l : List (Bool × ℕ × ℕ)) (v : Verdict) (taker : ℕ) → Alike word old (unlessRefused Refused l (answerAt v taker (length word)))
   unfolding unlessRefused
   alike-after [] v taker = alike-answer v taker
   alike-after (t ∷ l) v taker = go (t .0) (alike-after l v taker)
     where
-      go : (b : Bool) → Alike word old (unlessRefused l (answerAt v taker (length word))) → Alike word old (cond b (Refused (t .1) (t .2)) (unlessRefused l (answerAt v taker (length word))))
+      go : (b : Bool) → Alike word old (unlessRefused Refused l (answerAt v taker (length word))) → Alike word old (cond b (Refused (t .1) (t .2)) (unlessRefused Refused l (answerAt v taker (length word))))
       go true later = refl
       go false later = later
 

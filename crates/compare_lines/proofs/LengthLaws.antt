@@ -16,13 +16,14 @@ use Rattle.automata.specs.Search.{Entry}
 use Rattle.automata.specs.Unfolding.{acceptedBytes}
 use Rattle.format.specs.Decoding.{automatonOf}
 use Rattle.format.specs.Reading.{numberOf, readingOf}
+use Rattle.format.specs.Refusals.{faultOf, unlessRefused}
 use Rattle.format.specs.declared.Reading.{Reading}
 use Rattle.format.specs.declared.Reading.the-variants.{Refused as Fault, Valid}
 use Rattle.file_laws.proofs.Promise.{number-range}
 use Rattle.text.specs.Digits.{decimalOf, hexDigits, hexOf}
 use Rattle.text.specs.Line.{ascii}
 use Rattle.text.proofs.DigitLaws.{decimal-more, decimal-one}
-use Rattle.compare.specs.Comparing.{answerAt, automataTests, bufferOf, comparedAt, comparisonOf, faultOf, tests, unlessRefused}
+use Rattle.compare.specs.Comparing.{answerAt, automataTests, bufferOf, comparedAt, comparisonOf, tests}
 use Rattle.compare.specs.declared.Comparison.{Comparison}
 use Rattle.compare.specs.declared.Comparison.the-variants.{Different, Refused, Same}
 use Rattle.compare_lines.specs.ComparisonLines.{comparisonLine}
@@ -63,12 +64,12 @@ abbrev NoneHolds : List (Bool × ℕ × ℕ) → Type 0
 NoneHolds [] = Unit {0}
 NoneHolds (t ∷ l) = (t .0 ≡ false) × NoneHolds l
 
-small-after : (l : List (Bool × ℕ × ℕ)) (a : Comparison) → AllSmall l → (NoneHolds l → Small a) → Small (unlessRefused l a)
+small-after : (l : List (Bool × ℕ × ℕ)) (a : Comparison) → AllSmall l → (NoneHolds l → Small a) → Small (unlessRefused Refused l a)
 unfolding unlessRefused
 small-after [] a s f = f tt
 small-after (t ∷ l) a s f = go (t .0) refl (λ e. small-after l a (s .1) (λ n. f (e, n)))
   where
-    go : (b : Bool) → t .0 ≡ b → (t .0 ≡ false → Small (unlessRefused l a)) → Small (cond b (Refused (t .1) (t .2)) (unlessRefused l a))
+    go : (b : Bool) → t .0 ≡ b → (t .0 ≡ false → Small (unlessRefused Refused l a)) → Small (cond b (Refused (t .1) (t .2)) (unlessRefused Refused l a))
     go true e later = s .0
     go false e later = later e
 

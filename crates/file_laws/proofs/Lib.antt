@@ -1,6 +1,8 @@
 -- what callers may rely on: read this first
 pub mod Promise
 pub mod Examples
+-- the refusals of a call
+pub mod Refusals
 -- the laws behind it
 pub mod ValidLaws
 pub mod EncodingLaws
