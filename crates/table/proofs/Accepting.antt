@@ -6,28 +6,30 @@ use Prim.Native.Nat.{_*_, _+_, _<_, _≤_, ℕ}
 use native.Mathlib.Omega.{arith}
 use borrow.Author.Tests.{le-ltb, lt-ltb}
 use lib.Dec.{T}
+use lib.ListN.{length}
 use Rattle.automata.specs.Automaton.{Automaton, WellFormed, letters}
+use Rattle.automata.specs.Unfolding.{configurations}
 use Rattle.explore.specs.Arcs.{Indexed, Linked, Walkable}
 use Rattle.explore.specs.Explores.{Explores, exploredOf}
 use Rattle.explore.specs.Map.{Placed}
 use Rattle.explore.specs.declared.Explored.the-variants.{Tables, TooMany}
 use Rattle.explore.proofs.Tabling.{configured-kept}
 use Rattle.format.specs.Decoding.{automatonOf, decoded}
-use Rattle.format.specs.Reading.{readingOf}
+use Rattle.format.specs.Reading.{numberOf, readingOf}
+use Rattle.format.specs.Refusals.{faultOf}
 use Rattle.format.specs.declared.Counts.{Counts}
-use Rattle.format.specs.declared.Reading.{Reading}
-use Rattle.format.specs.declared.Reading.the-variants.{Valid}
+use Rattle.format.specs.declared.Reading.the-variants.{Refused as Fault, Valid}
 use Rattle.format.proofs.Steps.{letters-length}
+use Rattle.file_laws.proofs.Refusals.{has-fault}
 use Rattle.file_laws.proofs.ValidLaws.{valid-decoded, valid-lies, valid-ranges, valid-wellFormed}
 use Rattle.memory.specs.Frame.{Kept}
 use Rattle.sets.specs.Rows.{Closure, Link, related}
 use Rattle.table.specs.FileSteps.{Findable}
-use Rattle.table.specs.Membership.{judged, membershipOf, unlessFault}
+use Rattle.table.specs.Membership.{judged, membershipOf}
 use Rattle.table.specs.Words.{Builds, Built, Ready, Stored, letterSets}
 use Rattle.table.specs.declared.Membership.the-variants.{Refused}
-use Rattle.table.proofs.Building.{explored-built, explored-stored}
+use Rattle.table.proofs.Building.{explored-built, explored-few, explored-many, explored-stored}
 use Rattle.table.proofs.FileCovers.{built-findable}
-use Rattle.table.proofs.Judging.{judge-beyond}
 
 -- ---- building
 few-letters : (file : List ℕ) (c : Counts) → c .letters ≤ 64 → Walkable c file → letters (decoded c file) ≤ 255
@@ -65,16 +67,30 @@ built-ready {file} {w} {c} e place high i l b t f = record {
 }
 
 -- ---- what is answered
-pub answer-short : (file word : List ℕ) (words : ℕ) → words < 8192 → Refused 24 0 ≡ membershipOf file word words
-unfolding membershipOf
-answer-short file word words h = rw (lt-ltb words 8192 h)
+module _ (file word : List ℕ) (words : ℕ) where
+  pub answer-short : words < 8192 → Refused 24 0 ≡ membershipOf file word words
+  unfolding membershipOf
+  answer-short h = rw (lt-ltb words 8192 h)
 
-pub answer-read : (file word : List ℕ) (words : ℕ) {r : Reading} → 8192 ≤ words → r ≡ readingOf file → unlessFault r (judged 256 (automatonOf file) word) ≡ membershipOf file word words
-unfolding membershipOf
-answer-read file word words h e = rw (le-ltb words 8192 h, e)
+  module _ (enough : 8192 ≤ words) where
+    pub answer-fault : {n : ℕ} → Fault n ≡ readingOf file → Refused n 1 ≡ membershipOf file word words
+    unfolding membershipOf
+    answer-fault {n} e = ap (λ (m : ℕ). Refused m 1) (ap numberOf e) ∙ rw (le-ltb words 8192 enough, lt-ltb 0 (faultOf file) (has-fault file n (sym e)))
 
-pub answer-judged : (file word : List ℕ) (words : ℕ) {c : Counts} → 8192 ≤ words → Valid c ≡ readingOf file → judged 256 (decoded c file) word ≡ membershipOf file word words
-answer-judged file word words {c} h e = ap (λ (x : Automaton). judged 256 x word) (sym (valid-decoded file c (sym e))) ∙ answer-read file word words h e
+    module _ {c : Counts} (valid : Valid c ≡ readingOf file) where
+      none : faultOf file ≤ 0
+      none = omega (arith, ap numberOf valid)
 
-pub answer-beyond : (file word : List ℕ) (words : ℕ) {c : Counts} → 8192 ≤ words → Valid c ≡ readingOf file → TooMany ≡ exploredOf (decoded c file) 256 → Refused 21 1 ≡ membershipOf file word words
-answer-beyond file word words {c} h e t = sym (judge-beyond (decoded c file) 256 word t) ∙ answer-judged file word words h e
+      -- exploring found more than 256 configurations, or not
+      pub answer-beyond : TooMany ≡ exploredOf (decoded c file) 256 → Refused 21 1 ≡ membershipOf file word words
+      unfolding membershipOf
+      answer-beyond t =
+          let many : 256 < length (configurations (automatonOf file) 256) = rw (valid-decoded file c (sym valid)) (explored-many (decoded c file) 256 t) in
+          rw (le-ltb words 8192 enough, le-ltb 0 (faultOf file) none, lt-ltb 256 (length (configurations (automatonOf file) 256)) many)
+
+      pub answer-judged : {k p : ℕ} → Tables k p ≡ exploredOf (decoded c file) 256 → judged 256 (decoded c file) word ≡ membershipOf file word words
+      unfolding membershipOf
+      answer-judged {k} {p} t =
+          let few : length (configurations (automatonOf file) 256) ≤ 256 = rw (valid-decoded file c (sym valid)) (explored-few (decoded c file) 256 k p t .0) in
+          ap (λ (x : Automaton). judged 256 x word) (sym (valid-decoded file c (sym valid)))
+          ∙ rw (le-ltb words 8192 enough, le-ltb 0 (faultOf file) none, le-ltb 256 (length (configurations (automatonOf file) 256)) few)

@@ -6,7 +6,6 @@ use mathlib.Core.List.{List, [], _∷_}
 use mathlib.Core.Option.{Option, none, some}
 use Prim.Native.Nat.{_+_, _<_, _≤_, suc, zero, ℕ}
 use native.Mathlib.Omega.{arith}
-use borrow.Author.Tests.{le-ltb, lt-ltb}
 use lib.Dec.{T, eqb, ltb}
 use lib.ListN.{drop, getElem?, length, length-map, length-take}
 use Rattle.automata.specs.Automaton.{Automaton, Configuration, states}
@@ -14,8 +13,6 @@ use Rattle.automata.specs.Lists.{Each}
 use Rattle.automata.specs.Live.{count, epsilonClosure, live, liveFrom, meets, table}
 use Rattle.automata.specs.Unfolding.{accepted, acceptedBytes, configurations, finalSet, liveCount, liveSet, plainArcs, spelledOr}
 use Rattle.automata.specs.Words.{spelling}
-use Rattle.explore.specs.Explores.{exploredOf}
-use Rattle.explore.specs.declared.Explored.the-variants.{TooMany}
 use Rattle.explore.proofs.Meaning.{Good}
 use Rattle.explore.proofs.Walked.{configurations-packed}
 use Rattle.format.specs.Decoding.{decoded, isFinal}
@@ -27,8 +24,8 @@ use Rattle.sets.proofs.Laws.{count-none, count-within, meets-view}
 use Rattle.table.specs.Finals.{flagPlace, isFinalIn, stateIn}
 use Rattle.table.specs.Membership.{judged}
 use Rattle.table.specs.Words.{Built, Ready, liveBytes}
-use Rattle.table.specs.declared.Membership.the-variants.{Accepted, Refused, Rejected}
-use Rattle.table.proofs.Building.{explored-many, row-start}
+use Rattle.table.specs.declared.Membership.the-variants.{Accepted, Rejected}
+use Rattle.table.proofs.Building.{row-start}
 use Rattle.table.proofs.FinalLaws.{configurations-states, final-view, flag-inside}
 
 -- nothing is in the empty set
@@ -54,11 +51,6 @@ bytes-say x L s k S many start = rw (start, many) (go (spelling (x .alphabet) s)
     go none = (sym (meets-none n (finalSet x (configurations x L))), sym (count-none n (λ _. false) (λ j. refl)))
     go (some v) = (refl, refl)
 
--- where exploring answers that there are too many, so does membership
-pub judge-beyond : (x : Automaton) (L : ℕ) (word : List ℕ) → TooMany ≡ exploredOf x L → judged L x word ≡ Refused 21 1
-unfolding judged
-judge-beyond x L word e = rw (lt-ltb L (length (configurations x L)) (explored-many x L e))
-
 -- THE LAW of judging: `live` is the live set of the word and `finals` the set of the final configurations; m says how many are live,
 -- and b whether a final one is among them
 pub judge-is : {x : Automaton} {L : ℕ} {w : List ℕ} {base k p : ℕ} (word live finals : List ℕ) (b : Bool) (m : ℕ) → Built x L w base k p → k ≤ 256
@@ -69,7 +61,7 @@ judge-is {x} {L} {w} {base} {k} word live finals b m built few is inside final t
     let s = bytes-say x L word k (view k (row w base 0)) (built .many) (row-start built .0) in
     let e : acceptedBytes x L word ≡ b = s .0 ∙ sym (meets-view live finals inside test ∙ ap₂ meets is final) in
     let c : liveCount x L word ≡ m = s .1 ∙ ap count (sym is) ∙ sym (many ∙ count-within live few inside) in
-    rw (le-ltb L (length (configurations x L)) (rw (← built .many) (built .ended)), e, c)
+    rw (e, c)
 
 -- ---- the final configurations of a built automaton
 module _ {file : List ℕ} {c : Counts} {w : List ℕ} {base k p : ℕ} (r : Ready file c w base k p) where

@@ -1,34 +1,33 @@
 -- Membership: what membership answers of a file, a word and the number of working words lent (document 01, 'Runs and slips' and the
--- order of refusals: 24; the file's faults; 21).
+-- order of refusals).
 use mathlib.Core.Bool.{Bool, cond, false, true}
-use mathlib.Core.List.{List}
+use mathlib.Core.List.{List, [], _∷_}
 use Prim.Native.Nat.{ℕ}
 use lib.Dec.{ltb}
 use lib.ListN.{length}
 use Rattle.automata.specs.Automaton.{Automaton}
 use Rattle.automata.specs.Unfolding.{acceptedBytes, configurations, liveCount}
 use Rattle.format.specs.Decoding.{automatonOf}
-use Rattle.format.specs.Reading.{readingOf}
-use Rattle.format.specs.declared.Reading.{Reading}
-use Rattle.format.specs.declared.Reading.the-variants.{Refused as Fault, Valid}
+use Rattle.format.specs.Refusals.{faultOf, unlessRefused}
 use Rattle.table.specs.declared.Membership.{Membership}
 use Rattle.table.specs.declared.Membership.the-variants.{Accepted, Refused, Rejected}
 
--- of an automaton: 21 where it has more than L configurations, else whether it accepts the word, and how many are live
+-- the refusals in their order: 24, fewer than 8,192 working words; the file's fault; 21, more than L configurations
+unfoldable pub tests : (L : ℕ) (file : List ℕ) (words : ℕ) → List (Bool × ℕ × ℕ)
+tests L file words =
+    (ltb words 8192, 24, 0)
+    ∷ (ltb 0 (faultOf file), faultOf file, 1)
+    ∷ (ltb L (length (configurations (automatonOf file) L)), 21, 1)
+    ∷ []
+
+-- the answer: whether an automaton with at most L configurations accepts the word, and how many are live
 unfoldable pub judged : ℕ → Automaton → List ℕ → Membership
-judged L x word =
-    cond (ltb L (length (configurations x L)))
-    (Refused 21 1)
-    (cond (acceptedBytes x L word) (Accepted (liveCount x L word)) (Rejected (liveCount x L word)))
+judged L x word = cond (acceptedBytes x L word) (Accepted (liveCount x L word)) (Rejected (liveCount x L word))
 
--- a file with a fault is refused; else the answer is that of its automaton
-abbrev pub unlessFault : Reading → Membership → Membership
-unlessFault (Fault n) answer = Refused n 1
-unlessFault (Valid c) answer = answer
-
--- the whole answer: 24 first, then the file's faults, then 21
+-- the whole answer, at document 01's limit
 unfoldable pub membershipOf : (file word : List ℕ) (words : ℕ) → Membership
-membershipOf file word words = cond (ltb words 8192) (Refused 24 0) (unlessFault (readingOf file) (judged 256 (automatonOf file) word))
+unfolding tests unlessRefused
+membershipOf file word words = unlessRefused Refused (tests 256 file words) (judged 256 (automatonOf file) word)
 
 -- an answer as document 01 tells it: the number of the refusal and the automaton at fault, each 0 where there is none; whether the
 -- word is accepted, and how many configurations are live

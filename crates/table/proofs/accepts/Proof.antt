@@ -10,7 +10,7 @@ use Rattle.format.specs.Reading.{numberOf}
 use Rattle.table.specs.Membership.{judged}
 use Rattle.table.specs.Words.{BuiltAs}
 use Rattle.table.specs.declared.Membership.the-variants.{Refused}
-use Rattle.table.proofs.Accepting.{answer-beyond, answer-judged, answer-read, answer-short, built-ready, valid-few, valid-walkable}
+use Rattle.table.proofs.Accepting.{answer-beyond, answer-fault, answer-judged, answer-short, built-ready, valid-few, valid-walkable}
 use Rattle.table.proofs.accepts.Statement.{statement}
 use Rattle.table.proofs.accepts.Tie as tie
 
@@ -25,7 +25,7 @@ returns-2 c =
     let r = c .before .before .before in
     let i = r .before in
     let a = i .before .before .before .before .args in
-    (refl, ap (λ (n : ℕ). Refused n 1) (c .number .ensures ∙ ap numberOf (g .1)) ∙ answer-read (a .file .now) (a .word .now) (length (a .work .now)) (i .if1 .left) (sym (g .1) ∙ r .read .ensures))
+    (refl, ap (λ (n : ℕ). Refused n 1) (c .number .ensures ∙ ap numberOf (g .1)) ∙ answer-fault (a .file .now) (a .word .now) (length (a .work .now)) (i .if1 .left) (sym (g .1) ∙ r .read .ensures))
 
 build-requires : tie.Need-build-requires
 build-requires c κs =
@@ -61,13 +61,14 @@ judge-word-requires c κs =
 returns-4 : tie.Need-returns-4
 returns-4 c =
     let j = c .before .before in
+    let t = j .before .before .before .known .given in
     let b = j .before .before .before .before .before .before .before in
     let v = b .before .before .before .reading .given in
     let r = b .before .before .before .before .before in
     let i = r .before in
     let a = i .before .before .before .before .args in
     let judgement : j .judge-word .result ≡ judged 256 (decoded (v .0 .0) (a .file .now)) (a .word .now) = j .judge-word .ensures .1 in
-    (j .judge-word .ensures .0 .long ∙ b .build .ensures .0 .long, judgement ∙ answer-judged (a .file .now) (a .word .now) (length (a .work .now)) (i .if1 .left) (sym (v .1) ∙ r .read .ensures))
+    (j .judge-word .ensures .0 .long ∙ b .build .ensures .0 .long, judgement ∙ answer-judged (a .file .now) (a .word .now) (length (a .work .now)) (i .if1 .left) (sym (v .1) ∙ r .read .ensures) (sym (t .1) ∙ b .build .ensures .1 .1 .answer))
 
 pub accepts-spec : {M : Type 1} → statement M
 accepts-spec =
