@@ -12,7 +12,7 @@ use Rattle.format.specs.Reading.{numberOf, readingOf}
 use Rattle.file_laws.proofs.ValidLaws.{valid-arcs}
 use Rattle.table.proofs.Accepting.{valid-walkable}
 use Rattle.writing.specs.declared.Written.the-variants.{Refused}
-use Rattle.unfold.proofs.Answering.{answer-beyond, answer-read, answer-result, answer-short}
+use Rattle.unfold.proofs.Answering.{answer-beyond, answer-fault, answer-result, answer-short}
 use Rattle.unfold.proofs.Explored.{known, registers-are}
 use Rattle.unfold.proofs.unfold.Statement.{statement}
 use Rattle.unfold.proofs.unfold.Tie as tie
@@ -41,7 +41,7 @@ returns-2 c =
     let r = c .before .before .before in
     let i = r .before in
     let a = i .before .before .before .before .args in
-    (refl, (ap (λ (n : ℕ). Refused n 1) (c .number .ensures ∙ ap numberOf (g .1)) ∙ answer-read (a .file .now) (length (a .work .now)) (length (a .out .now)) (i .if1 .left) (sym (g .1) ∙ r .read .ensures), refl))
+    (refl, (ap (λ (n : ℕ). Refused n 1) (c .number .ensures ∙ ap numberOf (g .1)) ∙ answer-fault (a .file .now) (length (a .work .now)) (length (a .out .now)) (i .if1 .left) (sym (g .1) ∙ r .read .ensures), refl))
 
 explore-all-requires : tie.Need-explore-all-requires
 explore-all-requires c κs =
