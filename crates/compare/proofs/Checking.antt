@@ -1,7 +1,7 @@
 -- Checking: the refusals of comparing in their order, one test after the other.
 use mathlib.Core.Path.{_≡_, ap, refl, sym}
 use mathlib.Core.Bool.{Bool, false, not, true, _||_}
-use mathlib.Core.List.{List, [], _∷_}
+use mathlib.Core.List.{List, [], _∷_, _++_}
 use Prim.Native.Nat.{ℕ, _≤_, _<_}
 use native.Mathlib.Omega.{arith}
 use borrow.Author.Tests.{le-ltb, lt-ltb}
@@ -14,18 +14,16 @@ use Rattle.automata.proofs.ListLaws.{eqb-iff, sameBy-iff}
 use Rattle.explore.specs.Explores.{exploredOf}
 use Rattle.explore.specs.declared.Explored.the-variants.{Tables, TooMany}
 use Rattle.format.specs.Decoding.{automatonOf}
-use Rattle.format.specs.Reading.{numberOf, readingOf}
+use Rattle.format.specs.Reading.{numberOf}
 use Rattle.format.specs.Refusals.{faultOf, unlessRefused}
 use Rattle.format.specs.declared.Counts.{Counts}
-use Rattle.format.specs.declared.Reading.{Reading}
-use Rattle.format.specs.declared.Reading.the-variants.{Refused as Faulty, Valid}
-use Rattle.file_laws.proofs.Refusals.{has-fault}
-use Rattle.joining.specs.Joining.{Joinable, filesOf, paired, sameLetters}
+use Rattle.joining.specs.Joining.{Joinable, fileTests, filesOf}
 use Rattle.joining.specs.declared.files.Files.the-variants.{Fault}
+use Rattle.joining.proofs.FileLaws.{files-refused}
 use Rattle.table.proofs.Building.{explored-few, explored-many}
 use Rattle.compare.specs.Answers.{Answers, firstTests, limitTests}
 use Rattle.compare.specs.Compares.{Compares}
-use Rattle.compare.specs.Comparing.{automataTests, comparisonOf, tests}
+use Rattle.compare.specs.Comparing.{automataTests, comparedAt, comparisonOf, tests}
 use Rattle.compare.specs.declared.Comparison.{Comparison}
 use Rattle.compare.specs.declared.Comparison.the-variants.{Refused}
 
@@ -54,49 +52,8 @@ module _ {P : ℕ} {x y : Automaton} {left : List (Bool × ℕ × ℕ)} (z : Aut
       let f = explored-few z L k p e in
       passed _ 21 number (le-ltb L (length (configurations z L)) (f .0)) (passed _ 22 number (le-ltb M (length (plainArcs z L)) (omega (arith, f .2))) a)
 
--- ---- the files: 1 to 9 of the first, of the second, and 10
-module _ (first second : List ℕ) where
-  -- these tests, and then the rest
-  abbrev fileTests : List (Bool × ℕ × ℕ) → List (Bool × ℕ × ℕ)
-  fileTests rest = (ltb 0 (faultOf first), faultOf first, 1) ∷ (ltb 0 (faultOf second), faultOf second, 2) ∷ (not (sameBy eqb (automatonOf first .alphabet) (automatonOf second .alphabet)), 10, 0) ∷ rest
-
-  module _ {L P : ℕ} {x y : Automaton} {left : List (Bool × ℕ × ℕ)} where
-    pub files-fault : (old : List ℕ) {n b : ℕ} → filesOf first second ≡ Fault n b → Answers L P (fileTests left) x y old old (Refused n b)
-    unfolding filesOf sameLetters
-    files-fault old {n} {b} e = go (readingOf first) refl (readingOf second) refl (sameBy eqb (automatonOf first .alphabet) (automatonOf second .alphabet)) refl e
-      where
-        go : (u : Reading) → readingOf first ≡ u → (v : Reading) → readingOf second ≡ v → (t : Bool) → sameBy eqb (automatonOf first .alphabet) (automatonOf second .alphabet) ≡ t → paired u v t ≡ Fault n b
-            → Answers L P (fileTests left) x y old old (Refused n b)
-        go (Faulty i) p v q t s f =
-            let j : i ≡ n = cc in
-            let k : 1 ≡ b = cc in
-            let z : faultOf first ≡ i = ap numberOf p in
-            rw (← j, ← k, ← z) (stopped _ (faultOf first) 1 old (lt-ltb 0 (faultOf first) (has-fault first i p)))
-        go (Valid c) p (Faulty i) q t s f =
-            let j : i ≡ n = cc in
-            let k : 2 ≡ b = cc in
-            let z : faultOf second ≡ i = ap numberOf q in
-            rw (← j, ← k, ← z) (passed _ (faultOf first) 1 (le-ltb 0 (faultOf first) (omega (arith, ap numberOf p))) (stopped _ (faultOf second) 2 old (lt-ltb 0 (faultOf second) (has-fault second i q))))
-        go (Valid c) p (Valid d) q false s f =
-            let j : 10 ≡ n = cc in
-            let k : 0 ≡ b = cc in
-            rw (← j, ← k)
-            (passed _ (faultOf first) 1 (le-ltb 0 (faultOf first) (omega (arith, ap numberOf p)))
-            (passed _ (faultOf second) 2 (le-ltb 0 (faultOf second) (omega (arith, ap numberOf q))) (stopped _ 10 0 old (ap not s))))
-        go (Valid c) p (Valid d) q true s f = let z : _≡_ {A = ℕ} 0 1 = cc in absurd (omega arith)
-
-    pub files-both : {old new : List ℕ} {r : Comparison} {c d : Counts} → Joinable c d first second → Answers L P left x y old new r → Answers L P (fileTests left) x y old new r
-    files-both j a =
-        passed _ (faultOf first) 1 (le-ltb 0 (faultOf first) (omega (arith, ap numberOf (j .first))))
-        (passed _ (faultOf second) 2 (le-ltb 0 (faultOf second) (omega (arith, ap numberOf (j .second))))
-        (passed _ 10 0 (ap not (holds (sameBy eqb (automatonOf first .alphabet) (automatonOf second .alphabet)) ((sameBy-iff eqb eqb-iff (automatonOf first .alphabet) (automatonOf second .alphabet)) .1 (sym (j .shared))))) a))
-      where
-        holds : (b : Bool) → T b → b ≡ true
-        holds true t = refl
-        holds false t = absurd t
-
 -- ---- the whole call
-module _ (first second : List ℕ) (words : ℕ) (old : List ℕ) where
+module _ (first second : List ℕ) where
   abbrev one : Automaton
   one = automatonOf first
 
@@ -105,18 +62,34 @@ module _ (first second : List ℕ) (words : ℕ) (old : List ℕ) where
 
   -- the tests behind 24
   abbrev pub behindMemory : List (Bool × ℕ × ℕ)
-  behindMemory = fileTests first second (firstTests 256 2048 512 one two)
+  behindMemory = fileTests first second ++ firstTests 256 2048 512 one two
 
-  opened : {new : List ℕ} {r : Comparison} → Answers 256 512 ((ltb words 8192 || ltb (length old) 512, 24, 0) ∷ behindMemory) one two old new r → Compares first second words old new r
-  unfolding comparisonOf tests automataTests
-  opened a = record { word = a .word; answer = a .answer; buffer = a .buffer; shown = a .shown }
+  -- the files: 1 to 9 of the first, of the second, and 10
+  pub files-fault : (old : List ℕ) {n b : ℕ} → filesOf first second ≡ Fault n b → Answers 256 512 behindMemory one two old old (Refused n b)
+  files-fault old e = record { word = []; answer = sym (files-refused first second Refused (firstTests 256 2048 512 one two) (comparedAt 256 512 one two []) e); buffer = refl; shown = tt }
 
-  -- 24
-  pub words-short : words < 8192 → Compares first second words old old (Refused 24 0)
-  words-short h = opened (stopped _ 24 0 old (rw (lt-ltb words 8192 h)))
+  pub files-both : {old new : List ℕ} {r : Comparison} {c d : Counts} → Joinable c d first second → Answers 256 512 (firstTests 256 2048 512 one two) one two old new r → Answers 256 512 behindMemory one two old new r
+  unfolding fileTests
+  files-both j a =
+      passed _ (faultOf first) 1 (le-ltb 0 (faultOf first) (omega (arith, ap numberOf (j .first))))
+      (passed _ (faultOf second) 2 (le-ltb 0 (faultOf second) (omega (arith, ap numberOf (j .second))))
+      (passed _ 10 0 (ap not (holds (sameBy eqb (one .alphabet) (two .alphabet)) ((sameBy-iff eqb eqb-iff (one .alphabet) (two .alphabet)) .1 (sym (j .shared))))) a))
+    where
+      holds : (b : Bool) → T b → b ≡ true
+      holds true t = refl
+      holds false t = absurd t
 
-  pub buffer-short : 8192 ≤ words → length old < 512 → Compares first second words old old (Refused 24 0)
-  buffer-short g h = opened (stopped _ 24 0 old (rw (le-ltb words 8192 g, lt-ltb (length old) 512 h)))
+  module _ (words : ℕ) (old : List ℕ) where
+    opened : {new : List ℕ} {r : Comparison} → Answers 256 512 ((ltb words 8192 || ltb (length old) 512, 24, 0) ∷ behindMemory) one two old new r → Compares first second words old new r
+    unfolding comparisonOf tests automataTests fileTests
+    opened a = record { word = a .word; answer = a .answer; buffer = a .buffer; shown = a .shown }
 
-  pub compares : {new : List ℕ} {r : Comparison} → 8192 ≤ words → 512 ≤ length old → Answers 256 512 behindMemory one two old new r → Compares first second words old new r
-  compares g h a = opened (passed _ 24 0 (rw (le-ltb words 8192 g, le-ltb (length old) 512 h)) a)
+    -- 24
+    pub words-short : words < 8192 → Compares first second words old old (Refused 24 0)
+    words-short h = opened (stopped _ 24 0 old (rw (lt-ltb words 8192 h)))
+
+    pub buffer-short : 8192 ≤ words → length old < 512 → Compares first second words old old (Refused 24 0)
+    buffer-short g h = opened (stopped _ 24 0 old (rw (le-ltb words 8192 g, lt-ltb (length old) 512 h)))
+
+    pub compares : {new : List ℕ} {r : Comparison} → 8192 ≤ words → 512 ≤ length old → Answers 256 512 behindMemory one two old new r → Compares first second words old new r
+    compares g h a = opened (passed _ 24 0 (rw (le-ltb words 8192 g, le-ltb (length old) 512 h)) a)

@@ -1,37 +1,27 @@
 -- Promise: what the contract of comparing says of the bytes handed in (demand 3, and the exact condition of each refusal).
 use mathlib.Core.Path.{_≡_, refl, sym, ap, _∙_, subst}
-use mathlib.Core.Logic.{_↔_, inl, inr, ⊎-elim}
-use mathlib.Core.Bool.{Bool, cond, false, true}
+use mathlib.Core.Logic.{inl, inr, ⊎-elim}
+use mathlib.Core.Bool.{Bool, cond}
 use mathlib.Core.List.{List}
 use Prim.Native.Nat.{ℕ, _<_}
 use native.Mathlib.Omega.{arith}
-use lib.Dec.{T, eqb}
 use lib.ListN.{drop, length, length-append, take}
 use lib.Seq.{drop-at, take-at}
 use Rattle.automata.specs.Automaton.{Automaton, WellFormed}
-use Rattle.automata.specs.Lists.{sameBy}
 use Rattle.automata.specs.Pairs.{Right, Verdict, different, pairs, same, verdict}
 use Rattle.automata.specs.Unfolding.{acceptedBytes, configurations, plainArcs}
 use Rattle.automata.proofs.Laws.{comparing, comparing-more, reaching-more}
 use Rattle.automata.proofs.LanguageLaws.{same-language}
-use Rattle.automata.proofs.ListLaws.{eqb-iff, sameBy-iff}
 use Rattle.format.specs.Decoding.{automatonOf}
 use Rattle.format.specs.Refusals.{FirstHolds, faultOf, unlessRefused}
 use Rattle.file_laws.proofs.Promise.{valid-automaton}
-use Rattle.file_laws.proofs.Refusals.{NoneHolds, Outcome, at-least, first-exactly, first-some, no-fault, none-first, refused-or-not}
+use Rattle.file_laws.proofs.Refusals.{NoneHolds, Outcome, at-least, first-exactly, first-some, no-fault, none-first, refused-or-not, same-letters}
 use Rattle.compare.specs.Comparing.{answerAt, bufferOf, comparedAt, comparisonOf, tests, told}
 use Rattle.compare.specs.Compares.{Compares, Shown, ShownBy}
 use Rattle.compare.specs.Promised.{OneRule, Premises, Promised, conditions}
 use Rattle.compare.specs.declared.Comparison.{Comparison}
 use Rattle.compare.specs.declared.Comparison.the-variants.{Refused}
 use Rattle.compare.proofs.Refusals.{tests-decide}
-
-not-other : (u v : List ℕ) → ¬ (¬ (u ≡ v)) → u ≡ v
-not-other u v h = go (sameBy eqb u v) (sameBy-iff eqb eqb-iff u v)
-  where
-    go : (b : Bool) → T b ↔ (u ≡ v) → u ≡ v
-    go true f = f .0 tt
-    go false f = absurd (h (f .1))
 
 -- ---- the premises of demand 3 are that no condition of a refusal holds
 module _ (first second : List ℕ) (words buffer : ℕ) where
@@ -60,7 +50,7 @@ module _ (first second : List ℕ) (words buffer : ℕ) where
         enough-bytes = at-least buffer 512 (λ k. h .0 (inr k));
         valid₁ = omega arith;
         valid₂ = omega arith;
-        same-letters = not-other (automatonOf first .alphabet) (automatonOf second .alphabet) (l .0);
+        same-letters = same-letters (automatonOf first) (automatonOf second) (l .0);
         configurations₁ = l .1 .0;
         arcs₁ = at-least 2048 (length (plainArcs (automatonOf first) 256)) (l .1 .1 .0);
         configurations₂ = l .1 .1 .1 .0;

@@ -1,34 +1,27 @@
 -- Refusals: the tests of comparing decide the conditions of its refusals.
-use mathlib.Core.Path.{_≡_}
 use mathlib.Core.Logic.{_↔_, _⊎_, inl, inr, ⊎-elim}
-use mathlib.Core.Bool.{not, _||_}
+use mathlib.Core.Bool.{_||_}
 use mathlib.Core.List.{List}
 use Prim.Native.Nat.{ℕ, _<_}
 use native.Mathlib.Omega.{arith}
-use lib.Dec.{T, eqb, ltb, ltb→lt, lt→ltb}
+use lib.Dec.{T, ltb, ltb→lt, lt→ltb}
 use lib.ListN.{length}
 use Rattle.automata.specs.Automaton.{Automaton}
-use Rattle.automata.specs.Lists.{sameBy}
 use Rattle.automata.specs.Unfolding.{plainArcs}
 use Rattle.automata.proofs.Laws.{comparing-more}
-use Rattle.automata.proofs.ListLaws.{eqb-iff, iff-trans, not-iff, or-iff, sameBy-iff}
+use Rattle.automata.proofs.ListLaws.{iff-trans, or-iff}
 use Rattle.format.specs.Decoding.{automatonOf}
-use Rattle.file_laws.proofs.Refusals.{Decide, decided, fault-decided, less-decided, less-iff, reach-decided}
+use Rattle.file_laws.proofs.Refusals.{Decide, decided, fault-decided, less-decided, less-iff, letters-decided, reach-decided}
 use Rattle.compare.specs.Comparing.{automataTests, tests}
 use Rattle.compare.specs.Promised.{automataConditions, conditions}
 
 either-less : (k l m n : ℕ) → T (ltb k l || ltb m n) ↔ ((k < l) ⊎ (m < n))
 either-less k l m n = iff-trans (or-iff (ltb k l) (ltb m n)) (⊎-elim (λ t. inl (ltb→lt k l t)) (λ t. inr (ltb→lt m n t)), ⊎-elim (λ t. inl (lt→ltb k l t)) (λ t. inr (lt→ltb m n t)))
 
-other-lists : (u v : List ℕ) → T (not (sameBy eqb u v)) ↔ (¬ (u ≡ v))
-other-lists u v =
-    let e = sameBy-iff eqb eqb-iff u v in
-    iff-trans (not-iff (sameBy eqb u v)) (λ n p. n (e .1 p), λ n t. n (e .0 t))
-
 automata-decided : (x y : Automaton) → Decide (automataTests 256 2048 512 x y) (automataConditions x y)
 unfolding automataTests
 automata-decided x y = (
-  decided _ 10 0 (other-lists (x .alphabet) (y .alphabet)) (λ _. omega arith),
+  letters-decided x y,
   (
     reach-decided x 256 21 1 (omega arith),
     (

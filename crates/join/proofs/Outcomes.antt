@@ -1,212 +1,155 @@
 -- Outcomes: each answer of a joining call keeps the promises (specs/Promises.antt): of two files, whatever their join is, if it has a
 -- file where it is within the limits and the words that it is to have; and of one file, closure.
-use mathlib.Core.Path.{_∙_, _≡_, ap, refl, sym}
-use mathlib.Core.Logic.{_↔_, _≢_, _⊎_, inl, inr, ⊎-elim}
-use mathlib.Core.Bool.{Bool, cond, false, true}
+use mathlib.Core.Path.{_∙_, _≡_, ap, refl, subst, sym}
+use mathlib.Core.Logic.{_↔_, inl, inr}
+use mathlib.Core.Bool.{false}
 use mathlib.Core.List.{List, _++_}
 use Prim.Native.Nat.{_<_, _≤_, ℕ}
-use native.Mathlib.Decide.{decLe}
 use native.Mathlib.Omega.{arith}
-use borrow.Author.Tests.{le-leb, lt-leb}
-use lib.Dec.{eqb, leb}
 use lib.ListN.{drop, length, take}
 use lib.Seq.{drop-at, take-at}
 use Rattle.automata.specs.Automaton.{Automaton, WellFormed}
 use Rattle.automata.specs.Joins.{closure}
-use Rattle.automata.specs.Lists.{sameBy}
 use Rattle.automata.specs.Words.{Language}
-use Rattle.automata.proofs.ListLaws.{eqb-iff, sameBy-iff}
 use Rattle.automata.proofs.Laws.{closing}
 use Rattle.format.specs.Decoding.{automatonOf}
 use Rattle.format.specs.Encoding.{bytesOf}
 use Rattle.format.specs.Limits.{Fits}
-use Rattle.format.specs.Reading.{numberOf, readingOf}
-use Rattle.format.specs.declared.Reading.{Reading}
-use Rattle.format.specs.declared.Reading.the-variants.{Refused as Faulty, Valid}
-use Rattle.file_laws.proofs.Promise.{number-range, round-trip}
+use Rattle.format.specs.Reading.{numberOf}
+use Rattle.format.specs.Refusals.{FirstHolds, faultOf}
+use Rattle.file_laws.proofs.Promise.{round-trip}
+use Rattle.file_laws.proofs.Refusals.{Decide, Decides, NoneHolds, Outcome, at-least, decided, fault-decided, first-exactly, first-some, less-decided, letters-decided, no-fault, none-first, refused-or-not, same-letters}
 use Rattle.file_laws.proofs.ValidLaws.{valid-fits}
-use Rattle.writing.specs.Answers.{Refuses, outputOf}
+use Rattle.writing.specs.Answers.{outputOf, told}
 use Rattle.writing.specs.declared.Written.{Written}
 use Rattle.writing.specs.declared.Written.the-variants.{Bytes, Refused}
-use Rattle.joining.specs.Joining.{afterFile, afterFiles, beyond, closedOf, filesOf, joinedOf, paired, sameLetters, writtenOf}
-use Rattle.joining.proofs.FileLaws.{same-lists}
-use Rattle.join.specs.Promises.{Alike, Beyond, Closed, FileOf, Joined, TwoJoined}
-use Rattle.join.proofs.BeyondLaws.{beyond-limits, within-limits}
+use Rattle.joining.specs.Joining.{beyond, closeTests, closedOf, joinTests, joinedOf}
+use Rattle.join.specs.Promises.{Alike, Beyond, Closed, FileOf, Joined, TwoJoined, closeConditions, joinConditions}
+use Rattle.join.proofs.BeyondLaws.{beyond-iff, not-beyond}
 use Rattle.join.proofs.JoinedFits.{closure-fits}
 
 -- ---- the joined automaton x
-module _ (Ready : Type 0) (x : Automaton) (Words : List ℕ → Type 0) (old : List ℕ) where
-  abbrev Ends : Written → Type 0
-  Ends answer = Joined Ready x Words old (outputOf answer (bytesOf x) old) answer
+beyond-decided : (x : Automaton) → Decides (beyond x, 11, 0) (Beyond x, 11, 0)
+beyond-decided x = decided (beyond x) 11 0 (beyond-iff x) (λ _. omega arith)
 
-  -- a refusal of 1 to 10
-  early : (n i : ℕ) → n ≤ 10 → (¬ Ready) → Ends (Refused n i)
-  early n i h not = record {
-    limit = (λ q. absurd (omega (arith, q .0)), λ p. absurd (not (p .0)));
-    space = (λ q. absurd (omega (arith, q .0)), λ p. absurd (not (p .0)));
-    size = λ m. (λ q. absurd q, λ p. absurd (not (p .0)));
-    file = λ m q. absurd q;
-    unchanged = λ m j q. refl;
-  }
-
-  over : Ready → Beyond x → Ends (Refused 11 0)
-  over ready b = record {
-    limit = (λ q. (ready, b), λ p. (refl, refl));
-    space = (λ q. absurd (omega (arith, q .0)), λ p. absurd (p .1 b));
-    size = λ m. (λ q. absurd q, λ p. absurd (p .1 b));
-    file = λ m q. absurd q;
-    unchanged = λ m j q. refl;
-  }
-
-  short : Ready → (¬ Beyond x) → length old < length (bytesOf x) → Ends (Refused 25 0)
-  short ready few h = record {
-    limit = (λ q. absurd (omega (arith, q .0)), λ p. absurd (few (p .1)));
-    space = (λ q. (ready, few, h), λ p. (refl, refl));
-    size = λ m. (λ q. absurd q, λ p. absurd (omega (arith, p .2, p .3)));
-    file = λ m q. absurd q;
-    unchanged = λ m j q. refl;
-  }
-
-  module _ (accepts : (word : List ℕ) → Language x word ↔ Words word) where
-    stands : Fits x → FileOf x Words (length (bytesOf x)) old (bytesOf x ++ drop (length (bytesOf x)) old)
-    stands fits =
-        let file = bytesOf x in
-        let front : take (length file) (file ++ drop (length file) old) ≡ file = take-at file (drop (length file) old) (length file) refl in
-        let back = round-trip x fits in
-        let same : automatonOf (take (length file) (file ++ drop (length file) old)) ≡ x = ap automatonOf front ∙ back .1 in
-        record {
-          there = ap length front;
-          valid = ap (λ (s : List ℕ). numberOf (readingOf s)) front ∙ ap numberOf (back .0);
-          automaton = same;
-          accepts = rw same accepts;
-          behind = drop-at file (drop (length file) old) (length file) refl;
-        }
-
-    whole : Ready → (¬ Beyond x) → length (bytesOf x) ≤ length old → Fits x → Ends (Bytes (length (bytesOf x)))
-    whole ready few h fits = record {
-      limit = (λ q. absurd q, λ p. absurd (few (p .1)));
-      space = (λ q. absurd q, λ p. absurd (omega (arith, p .2)));
-      size = λ m. (λ q. (ready, few, q, omega arith), λ p. p .2);
-      file = λ m q. rw (← q) (stands fits);
-      unchanged = λ m j q. absurd q;
+-- its file, at the front of the output
+stands : (x : Automaton) (Words : List ℕ → Type 0) (old : List ℕ) → ((word : List ℕ) → Language x word ↔ Words word) → Fits x
+    → FileOf x Words (length (bytesOf x)) old (bytesOf x ++ drop (length (bytesOf x)) old)
+stands x Words old accepts fits =
+    let file = bytesOf x in
+    let front : take (length file) (file ++ drop (length file) old) ≡ file = take-at file (drop (length file) old) (length file) refl in
+    let back = round-trip x fits in
+    let same : automatonOf (take (length file) (file ++ drop (length file) old)) ≡ x = ap automatonOf front ∙ back .1 in
+    record {
+      there = ap length front;
+      valid = ap faultOf front ∙ ap numberOf (back .0);
+      automaton = same;
+      accepts = rw same accepts;
+      behind = drop-at file (drop (length file) old) (length file) refl;
     }
 
-    -- 11, 25 or the file
-    decided-ends : Ready → (beyond x ≡ false → Fits x) → Ends (writtenOf x (length old))
-    unfolding writtenOf
-    decided-ends ready fits = go (beyond x) refl
-      where
-        go : (b : Bool) → beyond x ≡ b → Ends (writtenOf x (length old))
-        go true e = rw e (over ready (beyond-limits x (rw e tt)))
-        go false e = room (decLe (length (bytesOf x)) (length old))
-          where
-            room : Dec (length (bytesOf x) ≤ length old) → Ends (writtenOf x (length old))
-            room (yes h) = rw (e, le-leb _ _ h) (whole ready (within-limits x e) h (fits e))
-            room (no h) = let less : length old < length (bytesOf x) = omega arith in rw (e, lt-leb _ _ less) (short ready (within-limits x e) less)
+-- a call with the conditions cs
+module _ (cs : List (Type 0 × ℕ × ℕ)) (Ready : Type 0) (x : Automaton) (Words : List ℕ → Type 0) (old : List ℕ) where
+  abbrev Answered : Type 0
+  Answered = Ready × (¬ Beyond x) × (length (bytesOf x) ≤ length old)
 
--- no refusal but these two once nothing was refused before
-late : (x : Automaton) (space n i : ℕ) → Refuses (writtenOf x space) n i → ((n ≡ 11) ⊎ (n ≡ 25)) × (i ≡ 0)
-unfolding writtenOf
-late x space n i = go (beyond x) (leb (length (bytesOf x)) space)
-  where
-    go : (over room : Bool) → Refuses (cond over (Refused 11 0) (cond room (Bytes (length (bytesOf x))) (Refused 25 0))) n i → ((n ≡ 11) ⊎ (n ≡ 25)) × (i ≡ 0)
-    go true room q = (inl (sym (q .0)), sym (q .1))
-    go false true q = absurd q
-    go false false q = (inr (sym (q .0)), sym (q .1))
+  abbrev Ends : Written → Type 0
+  Ends r = Joined cs Ready x Words old (outputOf r (bytesOf x) old) (told r)
+
+  module _ (none : NoneHolds cs ↔ Answered) (file : Answered → FileOf x Words (length (bytesOf x)) old (bytesOf x ++ drop (length (bytesOf x)) old)) where
+    refused : (n b : ℕ) → 0 < n → FirstHolds cs n b → Ends (Refused n b)
+    refused n b pos f = record {
+      size = λ z. absurd (omega arith);
+      file = λ z. absurd (omega arith);
+      unchanged = λ _. refl;
+      none = (λ z. absurd (omega arith), λ a. absurd (first-some cs n b pos f (none .1 a)));
+      refuses = first-exactly cs f;
+    }
+
+    whole : Answered → Ends (Bytes (length (bytesOf x)))
+    whole a = record {
+      size = λ _. refl;
+      file = λ _. file a;
+      unchanged = λ q. absurd (q refl);
+      none = (λ _. a, λ _. refl);
+      refuses = first-exactly cs (none-first cs (none .1 a));
+    }
+
+    ends : (r : Written) → Outcome Refused (Bytes (length (bytesOf x))) cs r → Ends r
+    ends r (inl h) = subst Ends (sym (h .1)) (whole (none .0 (h .0)))
+    ends r (inr h) = subst Ends (sym (h .4)) (refused (h .0) (h .1) (h .2) (h .3))
 
 -- ---- two files
 module _ (join : Automaton → Automaton → Automaton) (Words : (P Q : List ℕ → Type 0) → List ℕ → Type 0)
     (fits : (a b : Automaton) → Fits a → Fits b → b .alphabet ≡ a .alphabet → beyond (join a b) ≡ false → Fits (join a b))
     (accepts : (a b : Automaton) → WellFormed a → WellFormed b → b .alphabet ≡ a .alphabet → (word : List ℕ) → Language (join a b) word ↔ Words (Language a) (Language b) word)
     (first second old : List ℕ) where
+  abbrev a : Automaton
+  a = automatonOf first
+
+  abbrev b : Automaton
+  b = automatonOf second
+
   abbrev x : Automaton
-  x = join (automatonOf first) (automatonOf second)
+  x = join a b
 
-  abbrev Comes : Written → Type 0
-  Comes answer = TwoJoined join Words first second old (outputOf answer (bytesOf x) old) answer
+  abbrev cs : List (Type 0 × ℕ × ℕ)
+  cs = joinConditions first second x (length old)
 
-  first-faulty : (n : ℕ) → numberOf (readingOf first) ≡ n → 1 ≤ n → n ≤ 9 → Comes (Refused n 1)
-  first-faulty n e low high = record {
-    first-fault = λ m l g. (λ q. e ∙ q .0, λ p. (sym e ∙ p, refl));
-    second-fault = λ m l g. (λ q. absurd (omega (arith, q .1)), λ p. absurd (omega (arith, p .0)));
-    other-letters = (λ q. absurd (omega (arith, q .1)), λ p. absurd (omega (arith, p .0)));
-    joined = early (Alike first second) x _ old n 1 (omega arith) (λ r. omega (arith, r .first-valid));
-    no-other = λ m i q. inl (omega (arith, q .0), omega (arith, q .0), omega (arith, q .1), omega (arith, q .1));
-  }
+  tests-decide : Decide (joinTests first second x (length old)) cs
+  unfolding joinTests
+  tests-decide = (
+    fault-decided first 1,
+    (fault-decided second 2, (letters-decided a b, (beyond-decided x, (less-decided (length old) (length (bytesOf x)) 25 0 (omega arith), tt)))),
+  )
 
-  second-faulty : (n : ℕ) → numberOf (readingOf first) ≡ 0 → numberOf (readingOf second) ≡ n → 1 ≤ n → n ≤ 9 → Comes (Refused n 2)
-  second-faulty n v e low high = record {
-    first-fault = λ m l g. (λ q. absurd (omega (arith, q .1)), λ p. absurd (omega arith));
-    second-fault = λ m l g. (λ q. (v, e ∙ q .0), λ p. (sym e ∙ p .1, refl));
-    other-letters = (λ q. absurd (omega (arith, q .1)), λ p. absurd (omega (arith, p .1)));
-    joined = early (Alike first second) x _ old n 2 (omega arith) (λ r. omega (arith, r .second-valid));
-    no-other = λ m i q. inl (omega (arith, q .0), omega (arith, q .0), omega (arith, q .1), omega (arith, q .1));
-  }
+  none : NoneHolds cs ↔ (Alike first second × (¬ Beyond x) × (length (bytesOf x) ≤ length old))
+  none = (
+    λ h.
+        let u = at-least 0 (faultOf first) (h .0) in
+        let v = at-least 0 (faultOf second) (h .1 .0) in
+        (record { first-valid = omega arith; second-valid = omega arith; same-letters = sym (same-letters a b (h .1 .1 .0)) }, h .1 .1 .1 .0, at-least (length old) (length (bytesOf x)) (h .1 .1 .1 .1 .0)),
+    λ p. (λ h. omega (arith, p .0 .first-valid), (λ h. omega (arith, p .0 .second-valid), (λ h. h (sym (p .0 .same-letters)), (p .1, (λ h. omega (arith, p .2), tt))))),
+  )
 
-  letters-differ : numberOf (readingOf first) ≡ 0 → numberOf (readingOf second) ≡ 0 → automatonOf second .alphabet ≢ automatonOf first .alphabet → Comes (Refused 10 0)
-  letters-differ v w d = record {
-    first-fault = λ m l g. (λ q. absurd (omega (arith, q .1)), λ p. absurd (omega arith));
-    second-fault = λ m l g. (λ q. absurd (omega (arith, q .1)), λ p. absurd (omega (arith, p .1)));
-    other-letters = (λ q. (v, w, d), λ p. (refl, refl));
-    joined = early (Alike first second) x _ old 10 0 (omega arith) (λ r. d (r .same-letters));
-    no-other = λ m i q. inr (inl (sym (q .0)), sym (q .1));
-  }
+  file : (Alike first second × (¬ Beyond x) × (length (bytesOf x) ≤ length old)) → FileOf x (Words (Language a) (Language b)) (length (bytesOf x)) old (bytesOf x ++ drop (length (bytesOf x)) old)
+  file p =
+      let u = no-fault first (p .0 .first-valid) in
+      let v = no-fault second (p .0 .second-valid) in
+      let f = valid-fits first (u .0) (u .1) in
+      let g = valid-fits second (v .0) (v .1) in
+      let l = p .0 .same-letters in
+      stands x (Words (Language a) (Language b)) old (accepts a b (f .well-formed) (g .well-formed) l) (fits a b f g l (not-beyond x (p .1)))
 
-  alike : Alike first second → Fits (automatonOf first) → Fits (automatonOf second) → Comes (writtenOf x (length old))
-  alike r f g =
-      let a = automatonOf first in
-      let b = automatonOf second in
-      let only = late x (length old) in
-      record {
-        first-fault = λ m l h. (λ q. absurd (omega (arith, only m 1 q .1)), λ p. absurd (omega (arith, r .first-valid)));
-        second-fault = λ m l h. (λ q. absurd (omega (arith, only m 2 q .1)), λ p. absurd (omega (arith, p .1, r .second-valid)));
-        other-letters = (λ q. absurd (⊎-elim (λ e. omega arith) (λ e. omega arith) (only 10 0 q .0)), λ p. absurd (p .2 (r .same-letters)));
-        joined = decided-ends (Alike first second) x _ old (accepts a b (f .well-formed) (g .well-formed) (r .same-letters)) r (fits a b f g (r .same-letters));
-        no-other = λ m i q. inr (inr (only m i q .0), only m i q .1);
-      }
-
-  pub two-joined : Comes (joinedOf join first second (length old))
-  unfolding joinedOf filesOf sameLetters
-  two-joined = go (readingOf first) (readingOf second) (sameBy eqb (automatonOf first .alphabet) (automatonOf second .alphabet)) refl refl refl
-    where
-      go : (l r : Reading) (same : Bool) → readingOf first ≡ l → readingOf second ≡ r → sameBy eqb (automatonOf first .alphabet) (automatonOf second .alphabet) ≡ same
-          → Comes (afterFiles (paired l r same) (writtenOf x (length old)))
-      go (Faulty n) r same p q e = let k = number-range first n p in first-faulty n (ap numberOf p) (k .0) (k .1)
-      go (Valid a) (Faulty n) same p q e = let k = number-range second n q in second-faulty n (ap numberOf p) (ap numberOf q) (k .0) (k .1)
-      go (Valid a) (Valid b) false p q e = letters-differ (ap numberOf p) (ap numberOf q) (λ d. rw e at ((sameBy-iff eqb eqb-iff (automatonOf first .alphabet) (automatonOf second .alphabet)) .1 (sym d)))
-      go (Valid a) (Valid b) true p q e =
-          alike
-          (record { first-valid = ap numberOf p; second-valid = ap numberOf q; same-letters = sym (same-lists _ _ (rw e tt)) })
-          (valid-fits first a p) (valid-fits second b q)
+  pub two-joined : let r = joinedOf join first second (length old) in TwoJoined join Words first second old (outputOf r (bytesOf (join (automatonOf first) (automatonOf second))) old) (told r)
+  unfolding joinedOf
+  two-joined = ends cs (Alike first second) x (Words (Language a) (Language b)) old none file (joinedOf join first second (length old)) (refused-or-not Refused (Bytes (length (bytesOf x))) (joinTests first second x (length old)) cs tests-decide)
 
 -- ---- one file
 module _ (file old : List ℕ) where
   abbrev closed : Automaton
   closed = closure (automatonOf file)
 
-  abbrev Closes : Written → Type 0
-  Closes answer = Closed file old (outputOf answer (bytesOf closed) old) answer
+  abbrev conditions : List (Type 0 × ℕ × ℕ)
+  conditions = closeConditions file closed (length old)
 
-  faulty : (n : ℕ) → numberOf (readingOf file) ≡ n → 1 ≤ n → n ≤ 9 → Closes (Refused n 1)
-  faulty n e low high = record {
-    fault = λ m l g. (λ q. e ∙ q .0, λ p. (sym e ∙ p, refl));
-    joined = early (numberOf (readingOf file) ≡ 0) closed _ old n 1 (omega arith) (λ r. omega arith);
-    no-other = λ m i q. inl (omega (arith, q .0), omega (arith, q .0), sym (q .1));
-  }
+  close-decide : Decide (closeTests file (length old)) conditions
+  unfolding closeTests
+  close-decide = (fault-decided file 1, (beyond-decided closed, (less-decided (length old) (length (bytesOf closed)) 25 0 (omega arith), tt)))
 
-  valid : numberOf (readingOf file) ≡ 0 → Fits (automatonOf file) → Closes (writtenOf closed (length old))
-  valid v f =
-      let only = late closed (length old) in
-      record {
-        fault = λ m l g. (λ q. absurd (omega (arith, only m 1 q .1)), λ p. absurd (omega arith));
-        joined = decided-ends (numberOf (readingOf file) ≡ 0) closed _ old (closing (automatonOf file) (f .well-formed)) v (closure-fits (automatonOf file) f);
-        no-other = λ m i q. inr (only m i q);
-      }
+  none-holds : NoneHolds conditions ↔ ((faultOf file ≡ 0) × (¬ Beyond closed) × (length (bytesOf closed) ≤ length old))
+  none-holds = (
+    λ h. let u = at-least 0 (faultOf file) (h .0) in (omega arith, h .1 .0, at-least (length old) (length (bytesOf closed)) (h .1 .1 .0)),
+    λ p. (λ h. omega (arith, p .0), (p .1, (λ h. omega (arith, p .2), tt))),
+  )
 
-  pub one-closed : Closes (closedOf file (length old))
+  pub one-closed : let r = closedOf file (length old) in Closed file old (outputOf r (bytesOf (closure (automatonOf file))) old) (told r)
   unfolding closedOf
-  one-closed = go (readingOf file) refl
-    where
-      go : (r : Reading) → readingOf file ≡ r → Closes (afterFile r (writtenOf closed (length old)))
-      go (Faulty n) e = let k = number-range file n e in faulty n (ap numberOf e) (k .0) (k .1)
-      go (Valid c) e = valid (ap numberOf e) (valid-fits file c e)
+  one-closed =
+      ends conditions (faultOf file ≡ 0) closed _ old none-holds
+      (λ p.
+      let v = no-fault file (p .0) in
+      let f = valid-fits file (v .0) (v .1) in
+      stands closed _ old (closing (automatonOf file) (f .well-formed)) (closure-fits (automatonOf file) f (not-beyond closed (p .1))))
+      (closedOf file (length old))
+      (refused-or-not Refused (Bytes (length (bytesOf closed))) (closeTests file (length old)) conditions close-decide)

@@ -13,7 +13,7 @@ use Rattle.automata.proofs.Laws.{concatenating, intersecting, uniting}
 use Rattle.format.specs.Decoding.{automatonOf}
 use Rattle.format.specs.Encoding.{bytesOf}
 use Rattle.format.specs.Limits.{Fits}
-use Rattle.writing.specs.Answers.{outputOf}
+use Rattle.writing.specs.Answers.{outputOf, told}
 use Rattle.writing.specs.declared.Written.{Written}
 use Rattle.joining.specs.Joining.{beyond, closedOf, joinedOf}
 use Rattle.intersection.proofs.IntersectionFits.{intersection-fits}
@@ -33,22 +33,22 @@ Leaves join first second old out answer = out ≡ outputOf answer (bytesOf (join
 module _ (join : Automaton → Automaton → Automaton) (Words : (P Q : List ℕ → Type 0) → List ℕ → Type 0)
     (fits : (a b : Automaton) → Fits a → Fits b → b .alphabet ≡ a .alphabet → beyond (join a b) ≡ false → Fits (join a b))
     (accepts : (a b : Automaton) → WellFormed a → WellFormed b → b .alphabet ≡ a .alphabet → (word : List ℕ) → Language (join a b) word ↔ Words (Language a) (Language b) word) where
-  join-promised : (first second old out : List ℕ) (answer : Written) → Answers join first second old answer → Leaves join first second old out answer → TwoJoined join Words first second old out answer
+  join-promised : (first second old out : List ℕ) (answer : Written) → Answers join first second old answer → Leaves join first second old out answer → TwoJoined join Words first second old out (told answer)
   join-promised first second old out answer answered left = rw (left, answered) (two-joined join Words fits accepts first second old)
 
 module _ (first second old out : List ℕ) (answer : Written) where
   -- union: the words of either
-  pub union-promised : Answers union first second old answer → Leaves union first second old out answer → TwoJoined union InEither first second old out answer
+  pub union-promised : Answers union first second old answer → Leaves union first second old out answer → TwoJoined union InEither first second old out (told answer)
   union-promised = join-promised union InEither union-fits uniting first second old out answer
 
   -- concatenation: a word of the first and then a word of the second
-  pub concatenation-promised : Answers concatenation first second old answer → Leaves concatenation first second old out answer → TwoJoined concatenation Split first second old out answer
+  pub concatenation-promised : Answers concatenation first second old answer → Leaves concatenation first second old out answer → TwoJoined concatenation Split first second old out (told answer)
   concatenation-promised = join-promised concatenation Split concatenation-fits concatenating first second old out answer
 
   -- intersection: the words of both
-  pub intersection-promised : Answers intersection first second old answer → Leaves intersection first second old out answer → TwoJoined intersection InBoth first second old out answer
+  pub intersection-promised : Answers intersection first second old answer → Leaves intersection first second old out answer → TwoJoined intersection InBoth first second old out (told answer)
   intersection-promised = join-promised intersection InBoth intersection-fits intersecting first second old out answer
 
 -- closure: the finite sequences of words, none at all included
-pub closure-promised : (file old out : List ℕ) (answer : Written) → answer ≡ closedOf file (length old) → out ≡ outputOf answer (bytesOf (closure (automatonOf file))) old → Closed file old out answer
+pub closure-promised : (file old out : List ℕ) (answer : Written) → answer ≡ closedOf file (length old) → out ≡ outputOf answer (bytesOf (closure (automatonOf file))) old → Closed file old out (told answer)
 closure-promised file old out answer answered left = rw (left, answered) (one-closed file old)

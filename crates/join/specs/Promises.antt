@@ -2,7 +2,7 @@
 -- both 'Refused' sections). A word is a list of bytes of any length; that it is accepted is document 003's (automata's specs/Words.antt).
 use mathlib.Core.Path.{_≡_}
 use mathlib.Core.Logic.{_↔_, _≢_, _⊎_}
-use mathlib.Core.List.{List, List·Memᴰ}
+use mathlib.Core.List.{List, List·Memᴰ, [], _∷_}
 use Prim.Native.Nat.{_<_, _≤_, ℕ}
 use lib.ListN.{drop, length, take}
 use Rattle.automata.specs.Automaton.{Arc, Automaton, states}
@@ -10,9 +10,8 @@ use Rattle.automata.specs.Joins.{Star, closure}
 use Rattle.automata.specs.Words.{Language}
 use Rattle.format.specs.Decoding.{automatonOf}
 use Rattle.format.specs.Encoding.{bytesOf}
-use Rattle.format.specs.Reading.{numberOf, readingOf}
-use Rattle.writing.specs.Answers.{Refuses, Writes}
-use Rattle.writing.specs.declared.Written.{Written}
+use Rattle.format.specs.Refusals.{FirstHolds, faultOf}
+use Rattle.writing.specs.Answers.{Told}
 
 -- ---- words of two languages (`Split`, a word of one and then a word of the other, and `Star` are automata's specs/Joins.antt)
 abbrev pub InEither : (P Q : List ℕ → Type 0) → List ℕ → Type 0
@@ -32,46 +31,55 @@ pub data Beyond (x : Automaton) : Type 0 where
 -- the first n bytes of the output are a valid file of x, which accepts exactly the words named; those behind are as lent
 pub record FileOf (x : Automaton) (Words : List ℕ → Type 0) (n : ℕ) (old out : List ℕ) : Type 0 where
   pub there : length (take n out) ≡ n
-  pub valid : numberOf (readingOf (take n out)) ≡ 0
+  pub valid : faultOf (take n out) ≡ 0
   pub automaton : automatonOf (take n out) ≡ x
   pub accepts : (word : List ℕ) → Language (automatonOf (take n out)) word ↔ Words word
   pub behind : drop n out ≡ drop n old
 
--- what is promised of the joined automaton; `Ready`: no file is at fault, and 10 does not hold
-pub record Joined (Ready : Type 0) (x : Automaton) (Words : List ℕ → Type 0) (old out : List ℕ) (answer : Written) : Type 0 where
-  -- 11 just if it is beyond a limit
-  pub limit : Refuses answer 11 0 ↔ (Ready × Beyond x)
-  -- 25 just if it is not, and the output is shorter than its file
-  pub space : Refuses answer 25 0 ↔ (Ready × (¬ Beyond x) × (length old < length (bytesOf x)))
-  -- a length just if nothing is refused, and then the file is there
-  pub size : (n : ℕ) → Writes answer n ↔ (Ready × (¬ Beyond x) × (length (bytesOf x) ≡ n) × (n ≤ length old))
-  pub file : (n : ℕ) → Writes answer n → FileOf x Words n old out
-  -- a refusal leaves the output as it was lent
-  pub unchanged : (n i : ℕ) → Refuses answer n i → out ≡ old
+-- ---- document 01's refusals in their order: a condition, the number, and the automaton at fault
+-- two files, joined as x, or one file, closed as x
+abbrev pub joinConditions : (first second : List ℕ) → Automaton → (space : ℕ) → List (Type 0 × ℕ × ℕ)
+joinConditions first second x space =
+    (0 < faultOf first, faultOf first, 1)
+    ∷ (0 < faultOf second, faultOf second, 2)
+    ∷ (automatonOf first .alphabet ≢ automatonOf second .alphabet, 10, 0)
+    ∷ (Beyond x, 11, 0)
+    ∷ (space < length (bytesOf x), 25, 0)
+    ∷ []
 
--- ---- two files
--- both are valid, and list the same letters
+abbrev pub closeConditions : (file : List ℕ) → Automaton → (space : ℕ) → List (Type 0 × ℕ × ℕ)
+closeConditions file x space =
+    (0 < faultOf file, faultOf file, 1)
+    ∷ (Beyond x, 11, 0)
+    ∷ (space < length (bytesOf x), 25, 0)
+    ∷ []
+
+-- ---- what is promised of a call with these conditions; `Ready`: no file is at fault, and 10 does not hold
+pub record Joined (conditions : List (Type 0 × ℕ × ℕ)) (Ready : Type 0) (x : Automaton) (Words : List ℕ → Type 0) (old out : List ℕ) (t : Told) : Type 0 where
+  -- where nothing is refused, the file is there, and its length is told
+  pub size : t .number ≡ 0 → t .length ≡ length (bytesOf x)
+  pub file : t .number ≡ 0 → FileOf x Words (t .length) old out
+  -- a refusal leaves the output as it was lent
+  pub unchanged : t .number ≢ 0 → out ≡ old
+  -- the number is 0 just where nothing is to be refused
+  pub none : (t .number ≡ 0) ↔ (Ready × (¬ Beyond x) × (length (bytesOf x) ≤ length old))
+  -- each refusal has its number and its automaton at fault just where its condition is the first that holds; where none holds, both are 0
+  pub refuses : (n b : ℕ) → ((t .number ≡ n) × (t .automaton ≡ b)) ↔ FirstHolds conditions n b
+
+-- both files are valid, and list the same letters
 pub record Alike (first second : List ℕ) : Type 0 where
-  pub first-valid : numberOf (readingOf first) ≡ 0
-  pub second-valid : numberOf (readingOf second) ≡ 0
+  pub first-valid : faultOf first ≡ 0
+  pub second-valid : faultOf second ≡ 0
   pub same-letters : automatonOf second .alphabet ≡ automatonOf first .alphabet
 
-pub record TwoJoined (join : Automaton → Automaton → Automaton) (Words : (P Q : List ℕ → Type 0) → List ℕ → Type 0) (first second old out : List ℕ) (answer : Written) : Type 0 where
-  -- 1 to 9 of the first just if that is its fault, and of the second just if that is its fault and the first has none
-  pub first-fault : (n : ℕ) → 1 ≤ n → n ≤ 9 → Refuses answer n 1 ↔ (numberOf (readingOf first) ≡ n)
-  pub second-fault : (n : ℕ) → 1 ≤ n → n ≤ 9 → Refuses answer n 2 ↔ ((numberOf (readingOf first) ≡ 0) × (numberOf (readingOf second) ≡ n))
-  -- 10 just if both are valid and the letter lists differ
-  pub other-letters : Refuses answer 10 0 ↔ ((numberOf (readingOf first) ≡ 0) × (numberOf (readingOf second) ≡ 0) × (automatonOf second .alphabet ≢ automatonOf first .alphabet))
-  -- 11, 25 or the file
-  pub joined : Joined (Alike first second) (join (automatonOf first) (automatonOf second)) (Words (Language (automatonOf first)) (Language (automatonOf second))) old out answer
-  -- and nothing else
-  pub no-other : (n i : ℕ) → Refuses answer n i → ((1 ≤ n) × (n ≤ 9) × (1 ≤ i) × (i ≤ 2)) ⊎ (((n ≡ 10) ⊎ ((n ≡ 11) ⊎ (n ≡ 25))) × (i ≡ 0))
+-- of two files
+abbrev pub TwoJoined : (join : Automaton → Automaton → Automaton) (Words : (P Q : List ℕ → Type 0) → List ℕ → Type 0) (first second old out : List ℕ) → Told → Type 0
+TwoJoined join Words first second old out t =
+    let x = join (automatonOf first) (automatonOf second) in
+    Joined (joinConditions first second x (length old)) (Alike first second) x (Words (Language (automatonOf first)) (Language (automatonOf second))) old out t
 
--- ---- one file: closure accepts the finite sequences of its words
-pub record Closed (file old out : List ℕ) (answer : Written) : Type 0 where
-  -- 1 to 9 just if that is its fault
-  pub fault : (n : ℕ) → 1 ≤ n → n ≤ 9 → Refuses answer n 1 ↔ (numberOf (readingOf file) ≡ n)
-  -- 11, 25 or the file
-  pub joined : Joined (numberOf (readingOf file) ≡ 0) (closure (automatonOf file)) (Star (Language (automatonOf file))) old out answer
-  -- and nothing else
-  pub no-other : (n i : ℕ) → Refuses answer n i → ((1 ≤ n) × (n ≤ 9) × (i ≡ 1)) ⊎ (((n ≡ 11) ⊎ (n ≡ 25)) × (i ≡ 0))
+-- of one file: closure accepts the finite sequences of its words
+abbrev pub Closed : (file old out : List ℕ) → Told → Type 0
+Closed file old out t =
+    let x = closure (automatonOf file) in
+    Joined (closeConditions file x (length old)) (faultOf file ≡ 0) x (Star (Language (automatonOf file))) old out t

@@ -3,8 +3,8 @@ use mathlib.Core.Path.{_≡_, refl, ap₂, sym}
 use mathlib.Core.Bool.{Bool, false, true}
 use Prim.Native.Nat.{_≤_, ℕ}
 use native.Mathlib.Omega.{arith}
-use borrow.Author.Tests.{leb-true}
-use lib.Dec.{leb}
+use borrow.Author.Tests.{ltb-false}
+use lib.Dec.{ltb}
 use lib.ListN.{length}
 use Rattle.automata.specs.Automaton.{Automaton}
 use Rattle.format.specs.declared.Counts.{Counts}
@@ -23,12 +23,12 @@ module _ (x : Automaton) (space : ℕ) where
   -- a length
   pub written-bytes : {n : ℕ} → writtenOf x space ≡ Bytes n → Whole x space n
   unfolding writtenOf
-  written-bytes {n} e = go (beyond x) (leb (length (bytesOf x)) space) refl refl e
+  written-bytes {n} e = go (beyond x) (ltb space (length (bytesOf x))) refl refl e
     where
-      go : (over room : Bool) → beyond x ≡ over → leb (length (bytesOf x)) space ≡ room → writtenOf x space ≡ Bytes n → Whole x space n
-      go true room p q e = let z : _≡_ {A = ℕ} 0 1 = cc in absurd (omega arith)
-      go false true p q e = record { within = p; room = leb-true _ _ q; size = cc }
-      go false false p q e = let z : _≡_ {A = ℕ} 0 1 = cc in absurd (omega arith)
+      go : (over short : Bool) → beyond x ≡ over → ltb space (length (bytesOf x)) ≡ short → writtenOf x space ≡ Bytes n → Whole x space n
+      go true short p q e = let z : _≡_ {A = ℕ} 0 1 = cc in absurd (omega arith)
+      go false true p q e = let z : _≡_ {A = ℕ} 0 1 = cc in absurd (omega arith)
+      go false false p q e = record { within = p; room = ltb-false _ _ q; size = cc }
 
   -- what the code decides by, where no arc has more than 8 operations
   pub decided-written : (c : Counts) (size : ℕ) → Each FewOps (x .arcs) → sizes x ≡ c → length (bytesOf x) ≡ size → decided (manyCounts c) size space ≡ writtenOf x space

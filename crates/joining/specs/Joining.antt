@@ -1,18 +1,18 @@
--- Joining: what joining files answers, in the order of its refusals (document 01, 'Joining books' and both 'Refused' sections).
+-- Joining: what joining files answers (document 01, 'Joining books' and the order of refusals).
 -- The joined automata themselves are automata's specs/Joins.antt, and their bytes format's specs/Encoding.antt.
 use mathlib.Core.Path.{_≡_}
-use mathlib.Core.Bool.{Bool, true, false, cond, _||_}
-use mathlib.Core.List.{List}
+use mathlib.Core.Bool.{Bool, not, _||_}
+use mathlib.Core.List.{List, [], _∷_, _++_}
 use Prim.Native.Nat.{ℕ}
-use lib.Dec.{eqb, ltb, leb}
+use lib.Dec.{eqb, ltb}
 use lib.ListN.{length}
 use Rattle.automata.specs.Lists.{any, sameBy}
 use Rattle.automata.specs.Automaton.{Arc, Automaton}
 use Rattle.automata.specs.Joins.{closure}
 use Rattle.format.specs.declared.Counts.{Counts}
-use Rattle.format.specs.declared.Reading.{Reading}
-use Rattle.format.specs.declared.Reading.the-variants.{Valid, Refused as Faulty}
-use Rattle.format.specs.Reading.{readingOf}
+use Rattle.format.specs.declared.Reading.the-variants.{Valid}
+use Rattle.format.specs.Reading.{countsOf, readingOf}
+use Rattle.format.specs.Refusals.{faultOf, unlessRefused}
 use Rattle.format.specs.Decoding.{automatonOf}
 use Rattle.format.specs.Encoding.{sizes, bytesOf}
 use Rattle.writing.specs.declared.Written.{Written}
@@ -20,22 +20,23 @@ use Rattle.writing.specs.declared.Written.the-variants.{Bytes, Refused}
 use Rattle.joining.specs.declared.files.Files.{Files}
 use Rattle.joining.specs.declared.files.Files.the-variants.{Both, Fault}
 
--- ---- the files: 1 to 9 of the first, then of the second; 10, the two letter lists differ
-unfoldable pub sameLetters : Automaton → Automaton → Bool
-unfolding sameBy
-sameLetters a b = sameBy eqb (a .alphabet) (b .alphabet)
+-- ---- the refusals in their order: a test, and where it holds the number of the refusal and the automaton at fault
+-- of two files: the first's fault; the second's; 10, the letter lists differ
+unfoldable pub fileTests : (first second : List ℕ) → List (Bool × ℕ × ℕ)
+fileTests first second =
+    (ltb 0 (faultOf first), faultOf first, 1)
+    ∷ (ltb 0 (faultOf second), faultOf second, 2)
+    ∷ (not (sameBy eqb (automatonOf first .alphabet) (automatonOf second .alphabet)), 10, 0)
+    ∷ []
 
-abbrev pub paired : Reading → Reading → Bool → Files
-paired (Faulty number) right same = Fault number 1
-paired (Valid a) (Faulty number) same = Fault number 2
-paired (Valid a) (Valid b) false = Fault 10 0
-paired (Valid a) (Valid b) true = Both a b
+-- of a result of `size` bytes: 11, beyond a limit (`over`); 25, the output shorter than the result
+abbrev pub resultTests : (over : Bool) (size space : ℕ) → List (Bool × ℕ × ℕ)
+resultTests over size space =
+    (over, 11, 0)
+    ∷ (ltb space size, 25, 0)
+    ∷ []
 
-unfoldable pub filesOf : List ℕ → List ℕ → Files
-unfolding readingOf sameLetters
-filesOf s t = paired (readingOf s) (readingOf t) (sameLetters (automatonOf s) (automatonOf t))
-
--- ---- the joined automaton: 11, beyond a limit on s, n, m or p; 25, the output shorter than the result; else its length
+-- the limits are those on s, n, m and p
 abbrev pub manyCounts : Counts → Bool
 manyCounts c = ltb 256 (c .states) || ltb 8 (c .registers) || ltb 2048 (c .arcs)
 
@@ -46,32 +47,42 @@ unfoldable pub beyond : Automaton → Bool
 unfolding any
 beyond x = manyCounts (sizes x) || any manyOps (x .arcs)
 
--- `over`: beyond a limit; `size`: the bytes of the result; `space`: those of the output
-abbrev pub decided : Bool → ℕ → ℕ → Written
-decided over size space = cond over (Refused 11 0) (cond (leb size space) (Bytes size) (Refused 25 0))
+abbrev pub automatonTests : Automaton → (space : ℕ) → List (Bool × ℕ × ℕ)
+automatonTests x space = resultTests (beyond x) (length (bytesOf x)) space
+
+-- of a call that joins two files as the automaton x, and of one that closes a file
+unfoldable pub joinTests : (first second : List ℕ) → Automaton → (space : ℕ) → List (Bool × ℕ × ℕ)
+unfolding fileTests
+joinTests first second x space = fileTests first second ++ automatonTests x space
+
+unfoldable pub closeTests : (file : List ℕ) (space : ℕ) → List (Bool × ℕ × ℕ)
+closeTests file space = (ltb 0 (faultOf file), faultOf file, 1) ∷ automatonTests (closure (automatonOf file)) space
+
+-- ---- the answers
+-- the counts of both files
+unfoldable pub filesOf : List ℕ → List ℕ → Files
+unfolding fileTests unlessRefused
+filesOf first second = unlessRefused Fault (fileTests first second) (Both (countsOf first) (countsOf second))
+
+-- the length of a result, and of the joined automaton's file
+unfoldable pub decided : (over : Bool) (size space : ℕ) → Written
+unfolding unlessRefused
+decided over size space = unlessRefused Refused (resultTests over size space) (Bytes size)
 
 unfoldable pub writtenOf : Automaton → ℕ → Written
-unfolding beyond bytesOf
+unfolding decided
 writtenOf x space = decided (beyond x) (length (bytesOf x)) space
 
--- ---- the calls
 -- two files, joined as automata by `join`
-abbrev pub afterFiles : Files → Written → Written
-afterFiles (Both a b) rest = rest
-afterFiles (Fault number automaton) rest = Refused number automaton
-
 unfoldable pub joinedOf : (Automaton → Automaton → Automaton) → List ℕ → List ℕ → ℕ → Written
-unfolding filesOf writtenOf
-joinedOf join s t space = afterFiles (filesOf s t) (writtenOf (join (automatonOf s) (automatonOf t)) space)
+unfolding joinTests unlessRefused
+joinedOf join first second space =
+    unlessRefused Refused (joinTests first second (join (automatonOf first) (automatonOf second)) space) (Bytes (length (bytesOf (join (automatonOf first) (automatonOf second)))))
 
 -- one file
-abbrev pub afterFile : Reading → Written → Written
-afterFile (Valid c) rest = rest
-afterFile (Faulty number) rest = Refused number 1
-
 unfoldable pub closedOf : List ℕ → ℕ → Written
-unfolding readingOf writtenOf
-closedOf s space = afterFile (readingOf s) (writtenOf (closure (automatonOf s)) space)
+unfolding closeTests unlessRefused
+closedOf file space = unlessRefused Refused (closeTests file space) (Bytes (length (bytesOf (closure (automatonOf file)))))
 
 -- ---- what is known of two files once they are to be joined
 pub record Joinable (a b : Counts) (s t : List ℕ) : Type 0 where

@@ -21,9 +21,9 @@ use Rattle.file_laws.proofs.Refusals.{Decide, NoneHolds, Outcome, at-least, fau
 use Rattle.file_laws.proofs.ValidLaws.{valid-fits}
 use Rattle.writing.specs.declared.Written.{Written}
 use Rattle.writing.specs.declared.Written.the-variants.{Bytes, Refused}
-use Rattle.writing.specs.Answers.{outputOf}
+use Rattle.writing.specs.Answers.{outputOf, told}
 use Rattle.unfold.specs.Promised.{Answered, Promised, Unfolds, conditions}
-use Rattle.unfold.specs.Unfolding.{tests, told, unfoldingOf}
+use Rattle.unfold.specs.Unfolding.{tests, unfoldingOf}
 use Rattle.unfold.proofs.Again.{same-many, same-plain, unfolded-again}
 use Rattle.unfold.proofs.Answering.{answer-result, result-bytes}
 use Rattle.unfold.proofs.PlainFits.{unfolded-fits}

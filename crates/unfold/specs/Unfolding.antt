@@ -41,14 +41,3 @@ resultOf L P x space = unlessRefused Refused (resultTests L P x space) (Bytes (l
 unfoldable pub unfoldingOf : (file : List ℕ) (words space : ℕ) → Written
 unfolding tests unlessRefused
 unfoldingOf file words space = unlessRefused Refused (tests 256 2048 file words space) (Bytes (length (bytesOf (unfolded (automatonOf file) 256))))
-
--- an answer as document 01 tells it: the number of the refusal and the automaton at fault, each 0 where there is none; the length of
--- the file written
-pub record Told : Type 0 where
-  pub number : ℕ
-  pub automaton : ℕ
-  pub length : ℕ
-
-abbrev pub told : Written → Told
-told (Bytes n) = record { number = 0; automaton = 0; length = n }
-told (Refused n b) = record { number = n; automaton = b; length = 0 }

@@ -1,20 +1,19 @@
 -- Answers: what the answer of a call that writes a file says in document 01's terms ('Refused because of what the tables hold').
-use mathlib.Core.Path.{_≡_}
 use mathlib.Core.List.{List, _++_}
 use Prim.Native.Nat.{ℕ}
 use lib.ListN.{length, drop}
 use Rattle.writing.specs.declared.Written.{Written}
 use Rattle.writing.specs.declared.Written.the-variants.{Bytes, Refused}
 
--- a file was written, this many bytes long
-abbrev pub Writes : Written → ℕ → Type 0
-Writes (Bytes length) n = length ≡ n
-Writes (Refused number automaton) n = ⊥
+-- the number of the refusal and the automaton at fault, each 0 where there is none; the length of the file written
+pub record Told : Type 0 where
+  pub number : ℕ
+  pub automaton : ℕ
+  pub length : ℕ
 
--- the call was refused with this number, for this automaton (0 where none is at fault)
-abbrev pub Refuses : Written → ℕ → ℕ → Type 0
-Refuses (Bytes length) n i = ⊥
-Refuses (Refused number automaton) n i = (number ≡ n) × (automaton ≡ i)
+abbrev pub told : Written → Told
+told (Bytes n) = record { number = 0; automaton = 0; length = n }
+told (Refused n b) = record { number = n; automaton = b; length = 0 }
 
 -- the output afterwards, where the file was to be written into `old`: on success the file and the bytes behind it as lent,
 -- on refusal all as lent

@@ -1,8 +1,10 @@
-use mathlib.Core.Path.{_∙_, sym, refl}
+use mathlib.Core.Path.{_∙_, ap, sym, refl}
+use Prim.Native.Nat.{ℕ}
 use borrow.Author.Needs.{needs}
-use Rattle.joining.specs.Joining.{closedOf}
+use Rattle.format.specs.Reading.{numberOf}
+use Rattle.writing.specs.declared.Written.the-variants.{Refused}
 use Rattle.join.proofs.close.Statement.{statement}
-use Rattle.joining.proofs.FileLaws.{closed-valid}
+use Rattle.joining.proofs.FileLaws.{closed-fault, closed-valid}
 use Rattle.join.proofs.close.Tie as tie
 use Rattle.join.proofs.close.Reads as reads
 use Rattle.join.proofs.close.Lts as lts
@@ -28,8 +30,9 @@ number-requires c κs = search needs
 
 -- src/lib.rt:48:9
 returns : tie.Need-returns
-unfolding closedOf
-returns c = (rw (c .number .ensures, ← c .before .before .before .read .ensures, c .before .enum-told .given .1), refl)
+returns c =
+    let g = c .before .enum-told .given in
+    (ap (λ (n : ℕ). Refused n 1) (c .number .ensures ∙ ap numberOf (g .1)) ∙ sym (closed-fault _ _ (sym (c .before .before .before .read .ensures) ∙ g .1)), refl)
 
 -- src/lib.rt:50:5
 repeat-requires : tie.Need-repeat-requires

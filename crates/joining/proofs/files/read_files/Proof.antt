@@ -1,13 +1,16 @@
-use mathlib.Core.Path.{_∙_, _≡_, sym}
+use mathlib.Core.Path.{_∙_, _≡_, ap, sym}
+use mathlib.Core.Bool.{cond, not}
+use Prim.Native.Nat.{ℕ}
 use native.Mathlib.Omega.{arith}
 use borrow.Author.Needs.{needs}
 use borrow.Author.Tests.{not-false, not-true}
 use Rattle.format.specs.declared.Reading.the-variants.{Valid}
-use Rattle.format.specs.Reading.{readingOf}
+use Rattle.format.specs.Reading.{numberOf, readingOf}
 use Rattle.file_laws.proofs.ValidLaws.{valid-letters}
-use Rattle.joining.specs.Joining.{filesOf, paired}
+use Rattle.joining.specs.declared.files.Files.the-variants.{Both, Fault}
+use Rattle.joining.specs.Joining.{filesOf}
 use Rattle.joining.proofs.files.read_files.Statement.{statement}
-use Rattle.joining.proofs.FileLaws.{valid-files}
+use Rattle.joining.proofs.FileLaws.{first-fault, second-fault, valid-files}
 use Rattle.joining.proofs.files.read_files.Tie as tie
 use Rattle.joining.proofs.files.read_files.Reads as reads
 use Rattle.joining.proofs.files.read_files.Lts as lts
@@ -25,7 +28,7 @@ right-valid c = sym (c .before .before .before .read2 .ensures) ∙ c .before .r
 
 -- both files are valid: what comparing the letters says
 compared : (c : tie.After-same-bytes) → let v = c .before .before .before .before .before in let a = v .before .before .before .before .before .before .before .before .before .before .args in
-    filesOf (a .first .now) (a .second .now) ≡ paired (Valid (v .before .before .before .before .before .left .given .0 .0)) (Valid (v .before .right .given .0 .0)) (c .same-bytes .result)
+    filesOf (a .first .now) (a .second .now) ≡ cond (not (c .same-bytes .result)) (Fault 10 0) (Both (v .before .before .before .before .before .left .given .0 .0) (v .before .right .given .0 .0))
 compared c =
     let v = c .before .before .before .before .before in
     let a = v .before .before .before .before .before .before .before .before .before .before .args in
@@ -51,8 +54,9 @@ number-requires c κs = search needs
 
 -- src/files.rt:37:9
 returns : tie.Need-returns
-unfolding filesOf
-returns c = rw (c .number .ensures, ← c .before .before .before .read .ensures, c .before .enum-told .given .1)
+returns c =
+    let g = c .before .enum-told .given in
+    ap (λ (n : ℕ). Fault n 1) (c .number .ensures ∙ ap numberOf (g .1)) ∙ sym (first-fault _ _ (sym (c .before .before .before .read .ensures) ∙ g .1))
 
 -- src/files.rt:39:9
 read-requires-2 : tie.Need-read-requires-2
@@ -72,8 +76,10 @@ number-requires-2 c κs = search needs
 
 -- src/files.rt:41:9
 returns-2 : tie.Need-returns-2
-unfolding filesOf
-returns-2 c = rw (c .number2 .ensures, ← c .before .before .before .before .before .before .before .read .ensures, ← c .before .before .before .read2 .ensures, c .before .before .before .before .before .left .given .1, c .before .enum-told2 .given .1)
+returns-2 c =
+    let g = c .before .enum-told2 .given in
+    let left = sym (c .before .before .before .before .before .before .before .read .ensures) ∙ c .before .before .before .before .before .left .given .1 in
+    ap (λ (n : ℕ). Fault n 2) (c .number2 .ensures ∙ ap numberOf (g .1)) ∙ sym (second-fault _ _ left (sym (c .before .before .before .read2 .ensures) ∙ g .1))
 
 -- src/files.rt:43:15
 add-end : tie.Need-add-end
