@@ -1,25 +1,22 @@
 -- Checking: the refusals of comparing in their order, one test after the other.
-use mathlib.Core.Path.{_≡_, ap, refl, sym}
-use mathlib.Core.Bool.{Bool, false, not, true, _||_}
+use mathlib.Core.Path.{_≡_, _∙_, refl, sym}
+use mathlib.Core.Bool.{Bool, false, true, _||_}
 use mathlib.Core.List.{List, [], _∷_, _++_}
 use Prim.Native.Nat.{ℕ, _≤_, _<_}
 use native.Mathlib.Omega.{arith}
 use borrow.Author.Tests.{le-ltb, lt-ltb}
-use lib.Dec.{T, eqb, ltb}
+use lib.Dec.{ltb}
 use lib.ListN.{length}
 use Rattle.automata.specs.Automaton.{Automaton}
-use Rattle.automata.specs.Lists.{sameBy}
 use Rattle.automata.specs.Unfolding.{configurations, plainArcs}
-use Rattle.automata.proofs.ListLaws.{eqb-iff, sameBy-iff}
 use Rattle.explore.specs.Explores.{exploredOf}
 use Rattle.explore.specs.declared.Explored.the-variants.{Tables, TooMany}
 use Rattle.format.specs.Decoding.{automatonOf}
-use Rattle.format.specs.Reading.{numberOf}
-use Rattle.format.specs.Refusals.{faultOf, unlessRefused}
+use Rattle.format.specs.Refusals.{unlessRefused}
 use Rattle.format.specs.declared.Counts.{Counts}
-use Rattle.joining.specs.Joining.{Joinable, fileTests, filesOf}
-use Rattle.joining.specs.declared.files.Files.the-variants.{Fault}
-use Rattle.joining.proofs.FileLaws.{files-refused}
+use Rattle.joining.specs.Joining.{fileTests, filesOf}
+use Rattle.joining.specs.declared.files.Files.the-variants.{Both, Fault}
+use Rattle.joining.proofs.FileLaws.{files-passed, files-refused}
 use Rattle.table.proofs.Building.{explored-few, explored-many}
 use Rattle.compare.specs.Answers.{Answers, firstTests, limitTests}
 use Rattle.compare.specs.Compares.{Compares}
@@ -68,16 +65,13 @@ module _ (first second : List ℕ) where
   pub files-fault : (old : List ℕ) {n b : ℕ} → filesOf first second ≡ Fault n b → Answers 256 512 behindMemory one two old old (Refused n b)
   files-fault old e = record { word = []; answer = sym (files-refused first second Refused (firstTests 256 2048 512 one two) (comparedAt 256 512 one two []) e); buffer = refl; shown = tt }
 
-  pub files-both : {old new : List ℕ} {r : Comparison} {c d : Counts} → Joinable c d first second → Answers 256 512 (firstTests 256 2048 512 one two) one two old new r → Answers 256 512 behindMemory one two old new r
-  unfolding fileTests
-  files-both j a =
-      passed _ (faultOf first) 1 (le-ltb 0 (faultOf first) (omega (arith, ap numberOf (j .first))))
-      (passed _ (faultOf second) 2 (le-ltb 0 (faultOf second) (omega (arith, ap numberOf (j .second))))
-      (passed _ 10 0 (ap not (holds (sameBy eqb (one .alphabet) (two .alphabet)) ((sameBy-iff eqb eqb-iff (one .alphabet) (two .alphabet)) .1 (sym (j .shared))))) a))
-    where
-      holds : (b : Bool) → T b → b ≡ true
-      holds true t = refl
-      holds false t = absurd t
+  pub files-both : {old new : List ℕ} {r : Comparison} {c d : Counts} → filesOf first second ≡ Both c d → Answers 256 512 (firstTests 256 2048 512 one two) one two old new r → Answers 256 512 behindMemory one two old new r
+  files-both e a = record {
+    word = a .word;
+    answer = a .answer ∙ sym (files-passed first second Refused (firstTests 256 2048 512 one two) (comparedAt 256 512 one two (a .word)) e);
+    buffer = a .buffer;
+    shown = a .shown;
+  }
 
   module _ (words : ℕ) (old : List ℕ) where
     opened : {new : List ℕ} {r : Comparison} → Answers 256 512 ((ltb words 8192 || ltb (length old) 512, 24, 0) ∷ behindMemory) one two old new r → Compares first second words old new r

@@ -47,6 +47,7 @@ unfoldable pub beyond : Automaton → Bool
 unfolding any
 beyond x = manyCounts (sizes x) || any manyOps (x .arcs)
 
+-- of the joined automaton
 abbrev pub automatonTests : Automaton → (space : ℕ) → List (Bool × ℕ × ℕ)
 automatonTests x space = resultTests (beyond x) (length (bytesOf x)) space
 

@@ -1,9 +1,10 @@
 -- `compare::compare` meets its contract: each way out is a case of the definition, test after test (Checking).
 use borrow.Author.Needs.{needs}
-use mathlib.Core.Path.{_∙_, refl, sym}
+use mathlib.Core.Path.{_≡_, _∙_, refl, sym}
 use native.Mathlib.Omega.{arith}
 use lib.ListN.{length}
-use Rattle.joining.specs.Joining.{Joinable}
+use Rattle.joining.specs.Joining.{filesOf}
+use Rattle.joining.specs.declared.files.Files.the-variants.{Both}
 use Rattle.joining.proofs.FileLaws.{both-joinable}
 use Rattle.compare.proofs.Checking.{buffer-short, compares, files-both, files-fault, words-short}
 use Rattle.compare.proofs.compare.Statement.{statement}
@@ -21,17 +22,14 @@ returns-2 : tie.Need-returns-2
 returns-2 c = let i = c .before in let a = start i .args in (refl, buffer-short (a .first .now) (a .second .now) (length (a .work .now)) (a .word .now) (omega (arith, i .if1 .left)) (omega (arith, c .if2 .taken)))
 
 -- two valid files with the same letters
-joinable : (k : tie.After-known-told2) → let r = k .before .before .before in let a = start (r .before .before) .args in Joinable (k .before .a .given .0 .0) (k .before .a .given .0 .1 .0) (a .first .now) (a .second .now)
-joinable k =
-    let r = k .before .before .before in
-    let a = start (r .before .before) .args in
-    both-joinable (a .first .now) (a .second .now) (sym (r .read-files .ensures) ∙ k .before .a .given .1)
+both : (k : tie.After-known-told2) → let r = k .before .before .before in let a = start (r .before .before) .args in filesOf (a .first .now) (a .second .now) ≡ Both (k .before .a .given .0 .0) (k .before .a .given .0 .1 .0)
+both k = sym (k .before .before .before .read-files .ensures) ∙ k .before .a .given .1
 
 compare-files-requires : tie.Need-compare-files-requires
 compare-files-requires c κs =
     let k = c .before .before in
     let r = k .before .before .before in
-    (joinable k, (omega (arith, r .before .before .if1 .left), omega (arith, r .before .if2 .left)))
+    (both-joinable _ _ (both k), (omega (arith, r .before .before .if1 .left), omega (arith, r .before .if2 .left)))
 
 -- a file has a fault, or the letters differ
 returns-3 : tie.Need-returns-3
@@ -48,7 +46,7 @@ returns-4 c =
     let r = k .before .before .before in
     let i = r .before .before in
     let a = start i .args in
-    (d .compare-files .ensures .0, compares (a .first .now) (a .second .now) (length (a .work .now)) (a .word .now) (omega (arith, i .if1 .left)) (omega (arith, r .before .if2 .left)) (files-both (a .first .now) (a .second .now) (joinable k) (d .compare-files .ensures .1)))
+    (d .compare-files .ensures .0, compares (a .first .now) (a .second .now) (length (a .work .now)) (a .word .now) (omega (arith, i .if1 .left)) (omega (arith, r .before .if2 .left)) (files-both (a .first .now) (a .second .now) (both k) (d .compare-files .ensures .1)))
 
 pub compare-spec : {M : Type 1} → statement M
 compare-spec =
