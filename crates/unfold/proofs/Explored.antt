@@ -103,10 +103,10 @@ module _ (file : List ℕ) (c : Counts) (valid : readingOf file ≡ Valid c) whe
 
     module _ (plain : p ≤ 2048) where
       arcs-are : arcsOfMany w base k p 0 k ≡ map asArc (plainArcs x 256)
-      arcs-are = arcs-listed x formed (omega (arith, letters-are, valid-ranges file c valid .letters)) few (known .many) (known .plain) plain (found .block)
+      arcs-are = arcs-listed x formed (omega (arith, letters-are, valid-ranges file c valid .letters)) (omega arith) few (known .many) (known .plain) plain (found .block)
 
       pub starts-are : Starts w base k p
-      starts-are = starts-listed x formed (omega (arith, letters-are, valid-ranges file c valid .letters)) few (known .many) (known .plain) plain (found .block)
+      starts-are = starts-listed x formed (omega (arith, letters-are, valid-ranges file c valid .letters)) (omega arith) few (known .many) (known .plain) plain (found .block)
 
       pub arcs-length : length (arcsBytes (arcsOfMany w base k p 0 k)) ≡ 6 * p
       arcs-length = ap (λ l. length (arcsBytes l)) arcs-are ∙ omega (arith, plain-length (plainArcs x 256), known .plain)

@@ -85,41 +85,42 @@ module _ (x : Automaton) (all : List Configuration) (w : List ℕ) (base k p : �
       ap₂ (λ u v. u ++ v) one more ∙ sym (map-append asArc l r)
 
 -- ---- the block of an automaton whose walk has ended
-module _ (x : Automaton) (formed : WellFormed x) (few-letters : letters x ≤ 64) (few : length (configurations x 256) ≤ 256) {w : List ℕ} {base k p : ℕ}
-    (many : k ≡ length (configurations x 256)) (plain : p ≡ length (plainArcs x 256)) (fits : p ≤ 2048) (block : Block x 256 w base k p) where
-  start-is : (s : ℕ) → s < k → startAt w base s ≡ startOf x 256 s
+-- (the limit L is a variable: the checker would walk as many configurations as a written number says)
+module _ (x : Automaton) (formed : WellFormed x) (few-letters : letters x ≤ 64) {L : ℕ} (limit : L ≤ 256) (few : length (configurations x L) ≤ L)
+    {w : List ℕ} {base k p : ℕ} (many : k ≡ length (configurations x L)) (plain : p ≡ length (plainArcs x L)) (fits : p ≤ 2048) (block : Block x L w base k p) where
+  start-is : (s : ℕ) → s < k → startAt w base s ≡ startOf x L s
   unfolding startAt
   start-is s h = block .starts fits s h
 
-  end-is : (s : ℕ) → s < k → endAt w base k p s ≡ startOf x 256 (suc s)
+  end-is : (s : ℕ) → s < k → endAt w base k p s ≡ startOf x L (suc s)
   unfolding endAt startOf plainArcs
   end-is s h = go (decLt (s + 1) k)
     where
-      go : Dec (s + 1 < k) → endAt w base k p s ≡ startOf x 256 (suc s)
-      go (yes g) = rw (lt-ltb (s + 1) k g) (start-is (s + 1) g ∙ ap (startOf x 256) (add-one s))
-      go (no g) = rw (le-ltb (s + 1) k (omega arith)) (plain ∙ ap (λ (cs : List Configuration). length (plainAll x (configurations x 256) 0 cs)) (sym (take-all (suc s) (configurations x 256) (omega arith))))
+      go : Dec (s + 1 < k) → endAt w base k p s ≡ startOf x L (suc s)
+      go (yes g) = rw (lt-ltb (s + 1) k g) (start-is (s + 1) g ∙ ap (startOf x L) (add-one s))
+      go (no g) = rw (le-ltb (s + 1) k (omega arith)) (plain ∙ ap (λ (cs : List Configuration). length (plainAll x (configurations x L) 0 cs)) (sym (take-all (suc s) (configurations x L) (omega arith))))
 
   -- the starts are places of the list, and they rise
   pub starts-listed : Starts w base k p
   unfolding startOf plainArcs
   starts-listed = record {
-    few = rw many few;
+    few = omega arith;
     less = fits;
     zero = λ h. start-is 0 h;
-    each = λ s h. rw (start-is s h) (omega (arith, plain, before-le x (configurations x 256) 0 (configurations x 256) s));
-    rises = λ s h. rw (start-is s h, end-is s h) (before-rises x (configurations x 256) 0 (configurations x 256) s);
+    each = λ s h. rw (start-is s h) (omega (arith, plain, before-le x (configurations x L) 0 (configurations x L) s));
+    rises = λ s h. rw (start-is s h, end-is s h) (before-rises x (configurations x L) 0 (configurations x L) s);
   }
 
-  small : Each (PlainFits 256 255) (plainArcs x 256)
-  small = mem-each (plainArcs x 256) (λ a m. let f = plain-fit x formed 256 few a m in record { source = omega (arith, f .source); lettered = λ l e. omega (arith, f .lettered l e); target = omega (arith, f .target) })
+  small : Each (PlainFits 256 255) (plainArcs x L)
+  small = mem-each (plainArcs x L) (λ a m. let f = plain-fit x formed L few a m in record { source = omega (arith, f .source); lettered = λ l e. omega (arith, f .lettered l e); target = omega (arith, f .target) })
 
   -- THE LAW. What is listed are the arcs of the unfolded automaton
-  pub arcs-listed : arcsOfMany w base k p 0 k ≡ map asArc (plainArcs x 256)
+  pub arcs-listed : arcsOfMany w base k p 0 k ≡ map asArc (plainArcs x L)
   unfolding plainArcs startOf fieldsOf
   arcs-listed =
-      let all = configurations x 256 in
+      let all = configurations x L in
       let z : (s : ℕ) → 0 + s ≡ s = λ s. omega arith in
-      let e : map (λ i. field w (arcsAt base) i) (countFrom 0 (length (plainArcs x 256))) ≡ map listed (plainArcs x 256) = rw (← plain) (block .arcs fits) in
+      let e : map (λ i. field w (arcsAt base) i) (countFrom 0 (length (plainArcs x L))) ≡ map listed (plainArcs x L) = rw (← plain) (block .arcs fits) in
       ap (arcsOfMany w base k p 0) many
       ∙ many-listed x all w base k p 0 all 0 small e
       (λ s h. rw (z s) (start-is s (omega arith)) ∙ sym (z _))

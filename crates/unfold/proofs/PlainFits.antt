@@ -69,15 +69,15 @@ unfolded-sizes x L =
     let m = length-map (plainArcs x L) asArc in
     λ i. record { letters = letters x; states = s i; registers = 1; symbols = 1; arcs = m i }
 
-module _ (x : Automaton) (fits : Fits x) (few : length (configurations x 256) ≤ 256) (plain : length (plainArcs x 256) ≤ 2048) where
+module _ (x : Automaton) (fits : Fits x) {L : ℕ} (limit : L ≤ 256) (few : length (configurations x L) ≤ L) (plain : length (plainArcs x L) ≤ 2048) where
   abbrev counts : Counts
-  counts = plainCounts (letters x) (length (configurations x 256)) (length (plainArcs x 256))
+  counts = plainCounts (letters x) (length (configurations x L)) (length (plainArcs x L))
 
   ranges : Ranges counts
   ranges = record {
     letters = fits .ranges .letters;
-    some-state = some-configuration x (fits .well-formed) 256 few;
-    states = few;
+    some-state = some-configuration x (fits .well-formed) L few;
+    states = omega arith;
     some-register = omega arith;
     registers = omega arith;
     some-symbol = omega arith;
@@ -85,10 +85,10 @@ module _ (x : Automaton) (fits : Fits x) (few : length (configurations x 256) �
     arcs = plain;
   }
 
-  arc-fits : (a : PlainArc) → List·Memᴰ a (plainArcs x 256) → ArcFits counts (asArc a)
+  arc-fits : (a : PlainArc) → List·Memᴰ a (plainArcs x L) → ArcFits counts (asArc a)
   unfolding KeepsZero
   arc-fits a m =
-      let p = plain-fit x (fits .well-formed) 256 few a m in
+      let p = plain-fit x (fits .well-formed) L few a m in
       record {
         source = p .source;
         lettered = p .lettered;
@@ -99,9 +99,9 @@ module _ (x : Automaton) (fits : Fits x) (few : length (configurations x 256) �
       }
 
   -- THE LAW. It is within the limits of a file
-  pub unfolded-fits : Fits (unfolded x 256)
+  pub unfolded-fits : Fits (unfolded x L)
   unfolding unfolded
   unfolded-fits =
-      let e = unfolded-sizes x 256 in
-      fits-by (unfolded x 256) (rw e ranges) (fits .ascends)
-      (mem-each (map asArc (plainArcs x 256)) (λ b m. let q = Memᴰ·of-map asArc (plainArcs x 256) m in rw e (subst (ArcFits counts) (q .2) (arc-fits (q .0) (q .1)))))
+      let e = unfolded-sizes x L in
+      fits-by (unfolded x L) (rw e ranges) (fits .ascends)
+      (mem-each (map asArc (plainArcs x L)) (λ b m. let q = Memᴰ·of-map asArc (plainArcs x L) m in rw e (subst (ArcFits counts) (q .2) (arc-fits (q .0) (q .1)))))

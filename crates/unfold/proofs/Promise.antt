@@ -37,7 +37,7 @@ module _ (file : List ℕ) (c : Counts) (valid : readingOf file ≡ Valid c) (fe
   result = bytesOf (unfolded x 256)
 
   back : (readingOf result ≡ Valid (sizes (unfolded x 256))) × (automatonOf result ≡ unfolded x 256)
-  back = round-trip (unfolded x 256) (unfolded-fits x (valid-fits file c valid) few few-arcs)
+  back = round-trip (unfolded x 256) (unfolded-fits x (valid-fits file c valid) (omega arith) few few-arcs)
 
   same-bytes : bytesOf (unfolded (automatonOf result) 256) ≡ result
   same-bytes = ap (λ (y : Automaton). bytesOf (unfolded y 256)) (back .1) ∙ ap bytesOf (unfolded-again x 256 few)
