@@ -10,10 +10,10 @@ use lib.ListN.{length}
 use Rattle.automata.specs.Automaton.{Automaton}
 use Rattle.automata.specs.Unfolding.{configurations, plainArcs}
 use Rattle.explore.specs.Explores.{exploredOf}
-use Rattle.explore.specs.declared.Explored.the-variants.{Tables, TooMany}
+use Rattle.meeting.specs.declared.Explored.the-variants.{Tables, TooMany}
 use Rattle.format.specs.Decoding.{automatonOf}
 use Rattle.format.specs.Refusals.{unlessRefused}
-use Rattle.format.specs.declared.Counts.{Counts}
+use Rattle.file_parts.specs.declared.Counts.{Counts}
 use Rattle.joining.specs.Joining.{fileTests, filesOf}
 use Rattle.joining.specs.declared.files.Files.the-variants.{Both, Fault}
 use Rattle.joining.proofs.FileLaws.{files-passed, files-refused}

@@ -7,16 +7,16 @@ use Prim.Native.Nat.{ℕ, _+_, _≤_}
 use native.Mathlib.Omega.{arith}
 use lib.Dec.{ltb}
 use Rattle.automata.specs.Automaton.{Automaton, letters}
-use Rattle.explore.specs.Arcs.{Indexed, Linked}
+use Rattle.passing.specs.Arcs.{Indexed, Linked}
 use Rattle.explore.specs.Explores.{exploredOf}
-use Rattle.explore.specs.Map.{KeptBut, Placed, arcsAt, blockEnd}
-use Rattle.explore.specs.declared.Explored.{Explored}
-use Rattle.explore.specs.declared.Explored.the-variants.{Tables}
+use Rattle.passing.specs.Map.{KeptBut, Placed, arcsAt, blockEnd}
+use Rattle.meeting.specs.declared.Explored.{Explored}
+use Rattle.meeting.specs.declared.Explored.the-variants.{Tables}
 use Rattle.format.specs.Decoding.{automatonOf, decoded}
 use Rattle.format.specs.Reading.{readingOf}
-use Rattle.format.specs.declared.Counts.{Counts}
-use Rattle.format.specs.declared.Reading.the-variants.{Valid}
-use Rattle.format.proofs.Steps.{letters-length}
+use Rattle.file_parts.specs.declared.Counts.{Counts}
+use Rattle.file_parts.specs.declared.Reading.the-variants.{Valid}
+use Rattle.file_parts.proofs.Steps.{letters-length}
 use Rattle.file_laws.proofs.ValidLaws.{valid-decoded, valid-letters}
 use Rattle.writing.proofs.FileParts.{valid-alphabet}
 use Rattle.sets.specs.Sets.{inSet}

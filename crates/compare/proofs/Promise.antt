@@ -1,16 +1,16 @@
 -- Promise: what the contract of comparing says of the bytes handed in (demand 3, and the exact condition of each refusal).
 use mathlib.Core.Path.{_≡_, refl, sym, ap, _∙_, subst}
-use mathlib.Core.Logic.{inl, inr, ⊎-elim}
+use mathlib.Core.Logic.{_↔_, inl, inr, ⊎-elim}
 use mathlib.Core.Bool.{Bool, cond}
 use mathlib.Core.List.{List}
-use Prim.Native.Nat.{ℕ, _<_}
+use Prim.Native.Nat.{ℕ, _<_, _≤_}
 use native.Mathlib.Omega.{arith}
 use lib.ListN.{drop, length, length-append, take}
 use lib.Seq.{drop-at, take-at}
 use Rattle.automata.specs.Automaton.{Automaton, WellFormed}
-use Rattle.automata.specs.Pairs.{Right, Verdict, different, pairs, same, verdict}
+use Rattle.automata.specs.Pairs.{Right, Verdict, different, pairOf, pairs, same, verdict}
 use Rattle.automata.specs.Unfolding.{acceptedBytes, configurations, plainArcs}
-use Rattle.automata.proofs.Laws.{comparing, comparing-more, reaching-more}
+use Rattle.automata.proofs.Laws.{comparing, comparing-more, pairing, reaching-more}
 use Rattle.automata.proofs.LanguageLaws.{same-language}
 use Rattle.format.specs.Decoding.{automatonOf}
 use Rattle.format.specs.Refusals.{FirstHolds, faultOf, unlessRefused}
@@ -18,7 +18,7 @@ use Rattle.file_laws.proofs.Promise.{valid-automaton}
 use Rattle.file_laws.proofs.Refusals.{NoneHolds, Outcome, at-least, first-exactly, first-some, no-fault, none-first, refused-or-not, same-letters}
 use Rattle.compare.specs.Comparing.{answerAt, bufferOf, comparedAt, comparisonOf, tests, told}
 use Rattle.compare.specs.Compares.{Compares, Shown, ShownBy}
-use Rattle.compare.specs.Promised.{OneRule, Premises, Promised, conditions}
+use Rattle.compare.specs.Promised.{OneRule, Premises, Promised, SameEnds, conditions}
 use Rattle.compare.specs.declared.Comparison.{Comparison}
 use Rattle.compare.specs.declared.Comparison.the-variants.{Refused}
 use Rattle.compare.proofs.Refusals.{tests-decide}
@@ -69,10 +69,17 @@ module _ (first second : List ℕ) (words buffer : ℕ) (p : Premises first seco
   well-formed : (file : List ℕ) → faultOf file ≡ 0 → WellFormed (automatonOf file)
   well-formed file z = let v = no-fault file z in valid-automaton file (v .0) (v .1) .0
 
+  few₁ : length (configurations x 256) ≤ 256
+  few₁ = at-least 256 (length (configurations x 256)) (λ h. p .configurations₁ (reaching-more x 256 .0 h))
+
+  few₂ : length (configurations y 256) ≤ 256
+  few₂ = at-least 256 (length (configurations y 256)) (λ h. p .configurations₂ (reaching-more y 256 .0 h))
+
+  paired-by-runs : (v w : List ℕ) → (pairOf x y 256 v ≡ pairOf x y 256 w) ↔ (SameEnds x v w × SameEnds y v w)
+  paired-by-runs = pairing x y 256 few₁ few₂
+
   right : Right x y 256 (verdict x y 256 512)
-  right = comparing x y 256 512 (well-formed first (p .valid₁)) (well-formed second (p .valid₂)) (ap length (sym (p .same-letters)))
-      (at-least 256 (length (configurations x 256)) (λ h. p .configurations₁ (reaching-more x 256 .0 h)))
-      (at-least 256 (length (configurations y 256)) (λ h. p .configurations₂ (reaching-more y 256 .0 h)))
+  right = comparing x y 256 512 (well-formed first (p .valid₁)) (well-formed second (p .valid₂)) (ap length (sym (p .same-letters))) few₁ few₂
       (at-least 512 (length (pairs x y 256 512)) (λ h. p .few-pairs (comparing-more x y 256 512 .0 h)))
 
 -- one word that exactly one accepts, and the two aren't one rule
@@ -100,6 +107,7 @@ module _ (first second : List ℕ) (words : ℕ) (old new : List ℕ) where
     different = (λ t. absurd t, λ p. none (p .0));
     shows = λ t. absurd t;
     counts = λ p. absurd (none p);
+    paired = λ p. absurd (none p);
     refuses = first-exactly cs f;
     behind = e;
     none-shown = λ _. refl;
@@ -118,6 +126,7 @@ module _ (first second : List ℕ) (words : ℕ) (old new : List ℕ) where
     different = (λ t. absurd t, λ q. q .1 one);
     shows = λ t. absurd t;
     counts = λ _. r .0;
+    paired = paired-by-runs first second words (length old);
     refuses = first-exactly cs (none-first cs (none-of first second words (length old) p));
     behind = e;
     none-shown = λ _. refl;
@@ -132,6 +141,7 @@ module _ (first second : List ℕ) (words : ℕ) (old new : List ℕ) where
     different = (λ _. (p, not-one-rule x₁ x₂ taker word s), λ _. tt);
     shows = λ _. subst (λ (l : List ℕ). Shown x₁ x₂ taker l) (sym (ap (take (length word)) e ∙ take-at word _ (length word) refl)) s;
     counts = λ _. r .0;
+    paired = paired-by-runs first second words (length old);
     refuses = first-exactly cs (none-first cs (none-of first second words (length old) p));
     behind = ap (drop (length word)) e ∙ drop-at word (drop (length word) old) (length word) refl;
     none-shown = λ h. absurd (h tt);

@@ -1,13 +1,15 @@
--- Promised: what is promised of comparing (demand 3, and the exact condition of each refusal), with no algorithm in sight.
+-- Promised: what is promised of comparing (demand 3, and the exact condition of each refusal). Words, languages and configurations are
+-- those of runs; plain arcs (22) and pairs of live sets (23 and the count) are document 01's, over numbered configurations, and `paired`
+-- says by runs what one pair is.
 use mathlib.Core.Path.{_≡_}
 use mathlib.Core.Logic.{_↔_, _⊎_, _≢_}
 use mathlib.Core.List.{List, [], _∷_}
 use Prim.Native.Nat.{ℕ, _≤_, _<_}
 use lib.Dec.{T}
 use lib.ListN.{drop, length, take}
-use Rattle.automata.specs.Automaton.{Automaton, Reachable}
+use Rattle.automata.specs.Automaton.{Automaton, Configuration, Produces, Reachable, Run, start}
 use Rattle.automata.specs.Counting.{Counts, MoreThan}
-use Rattle.automata.specs.Pairs.{SomePair}
+use Rattle.automata.specs.Pairs.{SomePair, pairOf}
 use Rattle.automata.specs.Unfolding.{plainArcs}
 use Rattle.automata.specs.Words.{Language}
 use Rattle.format.specs.Decoding.{automatonOf}
@@ -52,6 +54,10 @@ pub record Premises (first second : List ℕ) (words buffer : ℕ) : Type 0 wher
 abbrev pub OneRule : Automaton → Automaton → Type 0
 OneRule x y = (word : List ℕ) → Language x word ↔ Language y word
 
+-- the runs that spell v and those that spell w end in the same configurations
+abbrev pub SameEnds : Automaton → (v w : List ℕ) → Type 0
+SameEnds x v w = (c : Configuration) → Run (Produces x) (start x) v c ↔ Run (Produces x) (start x) w c
+
 -- what is promised of two files, a number of working words, the buffer lent, the buffer afterwards, and the answer as it is told
 pub record Promised (first second : List ℕ) (words : ℕ) (old new : List ℕ) (t : Told) : Type 0 where
   -- nothing is refused just under the premises
@@ -63,6 +69,9 @@ pub record Promised (first second : List ℕ) (words : ℕ) (old new : List ℕ)
   pub shows : T (t .different) → Shown (automatonOf first) (automatonOf second) (t .taker) (take (t .size) new)
   -- told either, the number is that of the distinct pairs of live sets over all words of the letters
   pub counts : Premises first second words (length old) → Counts (SomePair (automatonOf first) (automatonOf second) 256) (t .pairs)
+  -- two words have one pair just if runs that spell them end in the same configurations, in each of the two automata
+  pub paired : Premises first second words (length old) → (v w : List ℕ)
+      → (pairOf (automatonOf first) (automatonOf second) 256 v ≡ pairOf (automatonOf first) (automatonOf second) 256 w) ↔ (SameEnds (automatonOf first) v w × SameEnds (automatonOf second) v w)
   -- each refusal has its number and its automaton at fault just where its condition is the first that holds; where none holds, both are 0
   pub refuses : (n b : ℕ) → ((t .number ≡ n) × (t .automaton ≡ b)) ↔ FirstHolds (conditions first second words (length old)) n b
   -- the bytes behind the shown word are as they were lent; where none is shown, all are, its size being 0

@@ -15,10 +15,11 @@ use Rattle.automata.specs.Pairs.{Pair, difference, judged, pairs, verdict}
 use Rattle.automata.specs.Search.{Entry}
 use Rattle.automata.specs.Unfolding.{acceptedBytes}
 use Rattle.format.specs.Decoding.{automatonOf}
-use Rattle.format.specs.Reading.{numberOf, readingOf}
+use Rattle.file_parts.specs.Parts.{numberOf}
+use Rattle.format.specs.Reading.{readingOf}
 use Rattle.format.specs.Refusals.{faultOf, unlessRefused}
-use Rattle.format.specs.declared.Reading.{Reading}
-use Rattle.format.specs.declared.Reading.the-variants.{Refused as Fault, Valid}
+use Rattle.file_parts.specs.declared.Reading.{Reading}
+use Rattle.file_parts.specs.declared.Reading.the-variants.{Refused as Fault, Valid}
 use Rattle.file_laws.proofs.Promise.{number-range}
 use Rattle.text.specs.Digits.{decimalOf, hexDigits, hexOf}
 use Rattle.text.specs.Line.{ascii}

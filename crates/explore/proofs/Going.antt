@@ -11,21 +11,22 @@ use native.Mathlib.Omega.{arith}
 use Rattle.automata.specs.Exploration.{add, addAll, number}
 use Rattle.automata.specs.Lists.{collect, prepend}
 use Rattle.automata.specs.Live.{PlainArc}
-use Rattle.explore.specs.Arcs.{ArcAt, Indexed, Linked, Walkable, placeOf}
-use Rattle.explore.specs.Map.{KeptBut, arcHeads, arcNexts, configs, mapEnd, offsets, startsAt}
-use Rattle.explore.specs.Packed.{Hop, hop, hopWith, hopsIn, performPacked, plainArc, plainsOf, tos}
-use Rattle.explore.specs.Tables.{Configured, Counted, Met, MetAll, Tabled}
-use Rattle.explore.specs.declared.Explored.the-variants.{Tables, TooMany}
-use Rattle.explore.specs.declared.Outcome.{Outcome}
-use Rattle.explore.specs.declared.Outcome.the-variants.{Failed, Leaves}
+use Rattle.passing.specs.Arcs.{ArcAt, Indexed, Linked, Walkable, placeOf}
+use Rattle.passing.specs.Map.{KeptBut, arcHeads, arcNexts, configs, mapEnd, offsets, startsAt}
+use Rattle.passing.specs.Packed.{Hop, hop, hopWith, hopsIn, performPacked, tos}
+use Rattle.meeting.specs.Known.{plainArc, plainsOf}
+use Rattle.meeting.specs.Tables.{Configured, Counted, Met, MetAll, Tabled}
+use Rattle.meeting.specs.declared.Explored.the-variants.{Tables, TooMany}
+use Rattle.passing.specs.declared.Outcome.{Outcome}
+use Rattle.passing.specs.declared.Outcome.the-variants.{Failed, Leaves}
 use Rattle.format.specs.Decoding.{letterOf}
-use Rattle.format.specs.declared.Counts.{Counts}
+use Rattle.file_parts.specs.declared.Counts.{Counts}
 use Rattle.memory.specs.Chains.{last}
 use Rattle.memory.specs.Fields.{field}
 use Rattle.automata.proofs.ExplorationLaws.{addAll-length}
-use Rattle.explore.proofs.Frames.{but-same, but-then}
-use Rattle.explore.proofs.Linking.{hops-chosen, hopsOf, stateOf}
-use Rattle.explore.proofs.Places.{entry-at}
+use Rattle.meeting.proofs.Frames.{but-same, but-then}
+use Rattle.passing.proofs.Linking.{hops-chosen, hopsOf, stateOf}
+use Rattle.passing.proofs.Places.{entry-at}
 use Rattle.memory.proofs.Laws.{last-is, field-same, OnChain, chosen, chosen-off, chosen-on, off-chain, on-chain}
 
 -- with the hops that are left the tables come to be those of `whole` and `list`

@@ -1,14 +1,4 @@
-pub mod Packing
-pub mod Meaning
-pub mod Numbering
 pub mod Walked
-pub mod Performing
-pub mod Places
-pub mod Linking
-pub mod Frames
-pub mod Fields
-pub mod Tabling
-pub mod Finding
 pub mod Going
 pub mod Walking
 pub mod Promise

@@ -8,13 +8,14 @@ use native.Mathlib.Omega.{arith}
 use Rattle.automata.specs.Automaton.{Automaton}
 use Rattle.automata.specs.Unfolding.{configurations, plainArcs}
 use Rattle.explore.specs.Explores.{Explores, exploredOf, startOf}
-use Rattle.explore.specs.Map.{Placed}
-use Rattle.explore.specs.Packed.{knownPacked, pack, plainsUpTo}
-use Rattle.explore.specs.Tables.{Tabled}
-use Rattle.explore.specs.declared.Explored.the-variants.{Tables, TooMany}
+use Rattle.passing.specs.Map.{Placed}
+use Rattle.meeting.specs.Known.{knownPacked, plainsUpTo}
+use Rattle.passing.specs.Packed.{pack}
+use Rattle.meeting.specs.Tables.{Tabled}
+use Rattle.meeting.specs.declared.Explored.the-variants.{Tables, TooMany}
 use Rattle.format.specs.Decoding.{arcsOf}
 use Rattle.format.specs.Placed.{OkArcs}
-use Rattle.explore.proofs.Finding.{all-length}
+use Rattle.meeting.proofs.Finding.{all-length}
 use Rattle.explore.proofs.Walked.{configurations-packed, plainAll-packed, plainArcs-packed}
 use Rattle.explore.proofs.Walking.{Walking, walking-end}
 

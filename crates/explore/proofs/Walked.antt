@@ -12,13 +12,14 @@ use Rattle.automata.specs.Lists.{Each}
 use Rattle.automata.specs.Live.{PlainArc}
 use Rattle.automata.specs.Performing.{Move, successors}
 use Rattle.automata.specs.Unfolding.{configurations, plainAll, plainArcs, plainFrom, sameConfiguration, targetsOf}
-use Rattle.explore.specs.Packed.{hops, knownPacked, nextPacked, pack, packContents, plainsUpTo, tos}
+use Rattle.passing.specs.Packed.{hops, pack, packContents, tos}
+use Rattle.meeting.specs.Known.{knownPacked, nextPacked, plainsUpTo}
 use Rattle.format.specs.Decoding.{arcsOf}
 use Rattle.format.specs.Placed.{OkArcs}
 use Rattle.automata.proofs.Mapped.{known-map, number-map}
-use Rattle.explore.proofs.Meaning.{Good, Packs, hops-packed, packHop, same-packed}
-use Rattle.explore.proofs.Numbering.{allNumbered, arcsNumbered, upto-final}
-use Rattle.explore.proofs.Packing.{Small}
+use Rattle.passing.proofs.Meaning.{Good, Packs, hops-packed, packHop, same-packed}
+use Rattle.meeting.proofs.Numbering.{allNumbered, arcsNumbered, upto-final}
+use Rattle.passing.proofs.Packing.{Small}
 
 zeros : (n : ℕ) → (packContents (replicate n 0) ≡ 0) × Small (replicate n 0)
 unfolding packContents

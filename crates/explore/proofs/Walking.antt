@@ -12,18 +12,19 @@ use native.Mathlib.Nat.{add-suc, add-zero}
 use native.Mathlib.Numerals.{add-one}
 use native.Mathlib.Omega.{arith}
 use Rattle.automata.specs.Exploration.{addAll, known}
-use Rattle.explore.specs.Map.{KeptBut, Placed, blockEnd, configs, mapEnd, startsAt}
-use Rattle.explore.specs.Packed.{hops, knownPacked, nextPacked, plainsOf, plainsUpTo, tos}
-use Rattle.explore.specs.Tables.{Configured, Counted, MetAll, Tabled}
-use Rattle.explore.specs.declared.Explored.the-variants.{Tables, TooMany}
+use Rattle.passing.specs.Map.{KeptBut, Placed, blockEnd, configs, mapEnd, startsAt}
+use Rattle.passing.specs.Packed.{hops, tos}
+use Rattle.meeting.specs.Known.{knownPacked, nextPacked, plainsOf, plainsUpTo}
+use Rattle.meeting.specs.Tables.{Configured, Counted, MetAll, Tabled}
+use Rattle.meeting.specs.declared.Explored.the-variants.{Tables, TooMany}
 use Rattle.memory.specs.Fields.{field}
 use Rattle.memory.specs.Frame.{Kept}
 use Rattle.automata.proofs.ExplorationLaws.{known-ended, known-long}
 use Rattle.automata.proofs.ListLaws.{at-none}
-use Rattle.explore.proofs.Finding.{all-at, all-length, placed-kept}
-use Rattle.explore.proofs.Frames.{but-high, but-same, but-then, but-wider}
-use Rattle.explore.proofs.Numbering.{next-known}
-use Rattle.explore.proofs.Tabling.{configured-kept, tabled-kept}
+use Rattle.meeting.proofs.Finding.{all-at, all-length, placed-kept}
+use Rattle.meeting.proofs.Frames.{but-high, but-same, but-then, but-wider}
+use Rattle.meeting.proofs.Numbering.{next-known}
+use Rattle.meeting.proofs.Tabling.{configured-kept, tabled-kept}
 use Rattle.memory.proofs.Laws.{field-same}
 
 -- c of the configurations have been walked, those of m arcs at the front of l

@@ -10,11 +10,11 @@ use mathlib.Core.Option.{none}
 use Rattle.automata.specs.Automaton.{Automaton}
 use Rattle.automata.specs.Live.{Moves}
 use Rattle.automata.specs.Unfolding.{configurations, plainAll, plainArcs}
-use Rattle.explore.specs.Map.{arcsAt, configs, startsAt}
-use Rattle.explore.specs.Packed.{pack}
-use Rattle.explore.specs.Tables.{Configured, fieldsOf, listed}
-use Rattle.explore.specs.declared.Explored.{Explored}
-use Rattle.explore.specs.declared.Explored.the-variants.{Tables, TooMany}
+use Rattle.passing.specs.Map.{arcsAt, configs, startsAt}
+use Rattle.passing.specs.Packed.{pack}
+use Rattle.meeting.specs.Tables.{Configured, fieldsOf, listed}
+use Rattle.meeting.specs.declared.Explored.{Explored}
+use Rattle.meeting.specs.declared.Explored.the-variants.{Tables, TooMany}
 use Rattle.memory.specs.Fields.{field}
 use Rattle.sets.specs.Rows.{related}
 

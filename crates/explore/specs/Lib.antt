@@ -1,5 +1,1 @@
-pub mod Packed
-pub mod Map
-pub mod Arcs
-pub mod Tables
 pub mod Explores

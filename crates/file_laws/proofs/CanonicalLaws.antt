@@ -8,15 +8,17 @@ use borrow.Author.Tests.{leb-true, eqb-true, eqb-false}
 use lib.Dec.{leb, eqb}
 use lib.ListN.{length, getD, drop, take, take-append-drop}
 use lib.Seq.{drop-drop, drop-cons}
-use Rattle.format.specs.declared.Counts.{Counts}
-use Rattle.format.specs.declared.Reading.the-variants.{Valid}
-use Rattle.format.specs.Reading.{two, countsOf, letterBytes, flagBytes, firstArc, flags, wellOp, wellOps, arcSize, arcTests, arcsTests, readingOf}
+use Rattle.file_parts.specs.declared.Counts.{Counts}
+use Rattle.file_parts.specs.declared.Reading.the-variants.{Valid}
+use Rattle.file_parts.specs.Parts.{two, countsOf, letterBytes, flagBytes, firstArc, flags, wellOp, wellOps, arcSize, arcTests, arcsTests}
+use Rattle.format.specs.Reading.{readingOf}
 use Rattle.format.specs.Decoding.{opOf, opsOf, letterOf, arcOf, arcsOf, isFinal, decoded, automatonOf}
 use Rattle.format.specs.Encoding.{headerBytes, flagByte, opBytes, opsBytes, letterByte, arcBytes, arcsBytes, bytesOf}
 use Rattle.format.specs.Limits.{Bytes}
 use Rattle.automata.proofs.ListLaws.{each-split}
-use Rattle.format.proofs.Tests.{and-both, all-hold, Holds, Hold}
-use Rattle.format.proofs.Seen.{HeaderSeen, ArcSeen, arc-seen}
+use Rattle.file_parts.proofs.Tests.{and-both, all-hold, Holds, Hold}
+use Rattle.file_arcs.proofs.ArcSeen.{ArcSeen, arc-seen}
+use Rattle.format.proofs.Seen.{HeaderSeen}
 use Rattle.file_laws.proofs.ArcLaws.{op-kind, ops-count}
 use Rattle.file_laws.proofs.ValidLaws.{FileSeen, file-seen, decoded-sizes}
 

@@ -10,15 +10,16 @@ use lib.Dec.{eqb, ltb}
 use lib.ListN.{length, drop, take, length-append, length-map}
 use lib.Seq.{drop-drop, take-at, drop-at}
 use Rattle.automata.specs.Automaton.{Op, reads, writes, Arc, Automaton, register, symbol, KeepsZero}
-use Rattle.format.specs.declared.Counts.{Counts}
-use Rattle.format.specs.declared.Reading.the-variants.{Valid}
-use Rattle.format.specs.Reading.{countsOf, letterBytes, ascending, flagBytes, firstArc, flags, wellFields, wellOp, wellOps, arcSize, arcTests, arcsTests, readingOf}
+use Rattle.file_parts.specs.declared.Counts.{Counts}
+use Rattle.file_parts.specs.declared.Reading.the-variants.{Valid}
+use Rattle.file_parts.specs.Parts.{countsOf, letterBytes, ascending, flagBytes, firstArc, flags, wellFields, wellOp, wellOps, arcSize, arcTests, arcsTests}
+use Rattle.format.specs.Reading.{readingOf}
 use Rattle.format.specs.Decoding.{opOf, opsOf, letterOf, arcOf, arcsOf, isFinal, decoded, automatonOf}
 use Rattle.format.specs.Encoding.{sizes, flagByte, kind, opsBytes, letterByte, arcBytes, arcsBytes, bytesOf}
 use Rattle.format.specs.Limits.{Ranges, Fits}
 use Rattle.automata.specs.Lists.{Each}
 use Rattle.automata.proofs.ListLaws.{each-join}
-use Rattle.format.proofs.Tests.{Holds, Hold}
+use Rattle.file_parts.proofs.Tests.{Holds, Hold}
 use Rattle.format.proofs.Seen.{HeaderSeen}
 use Rattle.file_laws.proofs.Fitting.{OpFits, ArcFits, arcs-fit}
 use Rattle.file_laws.proofs.ValidLaws.{seen-file}

@@ -5,11 +5,11 @@ use mathlib.Core.Option.{some}
 use Prim.Native.Nat.{ℕ, _≤_, _<_}
 use lib.ListN.{length}
 use Rattle.automata.specs.Automaton.{Op, Arc, Automaton, register, symbol, KeepsZero}
-use Rattle.format.specs.declared.Counts.{Counts}
-use Rattle.format.specs.Reading.{ascending}
+use Rattle.file_parts.specs.declared.Counts.{Counts}
+use Rattle.file_parts.specs.Parts.{ascending}
 use Rattle.format.specs.Encoding.{sizes}
 use Rattle.format.specs.Limits.{Ranges, Fits}
-use Rattle.format.proofs.LetterLaws.{ascending-apart}
+use Rattle.file_parts.proofs.LetterLaws.{ascending-apart}
 use Rattle.automata.specs.Lists.{Each}
 use Rattle.automata.proofs.ListLaws.{each-mem, mem-each}
 

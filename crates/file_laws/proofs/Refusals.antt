@@ -15,11 +15,12 @@ use Rattle.automata.specs.Lists.{sameBy}
 use Rattle.automata.specs.Unfolding.{configurations}
 use Rattle.automata.proofs.Laws.{reaching-more}
 use Rattle.automata.proofs.ListLaws.{eqb-iff, iff-trans, not-iff, sameBy-iff}
-use Rattle.format.specs.Reading.{numberOf, readingOf}
+use Rattle.file_parts.specs.Parts.{numberOf}
+use Rattle.format.specs.Reading.{readingOf}
 use Rattle.format.specs.Refusals.{FirstHolds, faultOf, unlessRefused}
-use Rattle.format.specs.declared.Counts.{Counts}
-use Rattle.format.specs.declared.Reading.{Reading}
-use Rattle.format.specs.declared.Reading.the-variants.{Refused as Fault, Valid}
+use Rattle.file_parts.specs.declared.Counts.{Counts}
+use Rattle.file_parts.specs.declared.Reading.{Reading}
+use Rattle.file_parts.specs.declared.Reading.the-variants.{Refused as Fault, Valid}
 use Rattle.file_laws.proofs.Promise.{number-range}
 
 -- ---- tests and conditions

@@ -1,4 +1,4 @@
--- Seen: what reading has seen of a header, of an arc and of a whole file when it finds no fault there.
+-- Seen: what reading has seen of a header when it finds no fault there, and what it then goes on to.
 use mathlib.Core.Path.{_≡_, ap, _∙_, subst}
 use mathlib.Core.Bool.{true}
 use mathlib.Core.List.{List, [], _∷_}
@@ -6,11 +6,12 @@ use Prim.Native.Nat.{ℕ, _≤_}
 use borrow.Author.Tests.{leb-true, le-leb, eqb-true, eq-eqb}
 use lib.Dec.{leb}
 use lib.ListN.{length, getD, drop}
-use Rattle.format.specs.declared.Counts.{Counts}
-use Rattle.format.specs.declared.Reading.the-variants.{Valid, Refused}
-use Rattle.format.specs.Reading.{two, marked, countsOf, inRange, headerTests, wellFields, wellOps, arcSize, arcTests, bodyTests, firstFault, readingOf}
+use Rattle.file_parts.specs.declared.Counts.{Counts}
+use Rattle.file_parts.specs.declared.Reading.the-variants.{Valid, Refused}
+use Rattle.file_parts.specs.Parts.{two, marked, countsOf, inRange, headerTests, wellFields, wellOps, arcSize, arcTests, firstFault}
+use Rattle.format.specs.Reading.{bodyTests, readingOf}
 use Rattle.format.specs.Limits.{Ranges}
-use Rattle.format.proofs.Tests.{all-hold, Hold, valid-hold, andThen, fault-append}
+use Rattle.file_parts.proofs.Tests.{all-hold, Hold, valid-hold, andThen, fault-append}
 
 -- ---- the counts' ranges
 pub ranges-of : (c : Counts) → inRange c ≡ true → Ranges c
@@ -52,19 +53,6 @@ header-seen s h = record { twelve = leb-true _ _ (h .0); mark = h .1 .0; version
 
 pub seen-header : (s : List ℕ) → HeaderSeen s → Hold (headerTests s)
 seen-header s h = (le-leb _ _ (h .twelve), (h .mark, (eq-eqb _ _ (h .version), (ranges-in (countsOf s) (h .ranges), tt))))
-
--- ---- an arc
-pub record ArcSeen (c : Counts) (l : List ℕ) : Type 0 where
-  pub fields : wellFields c l ≡ true
-  pub whole : arcSize l ≤ length l
-  pub ops : wellOps c (getD l 3 0) (drop 4 l) ≡ true
-
-pub arc-seen : (c : Counts) (l : List ℕ) → Hold (arcTests c l) → ArcSeen c l
-arc-seen c l h = record { fields = h .1 .0; whole = leb-true _ _ (h .1 .1 .0); ops = h .1 .1 .1 .0 }
-
--- an arc without a fault is there whole
-pub arc-whole : (c : Counts) (l : List ℕ) {d : Counts} → firstFault (arcTests c l) c ≡ Valid d → arcSize l ≤ length l
-arc-whole c l e = arc-seen c l (valid-hold (arcTests c l) c e .0) .whole
 
 -- ---- the header, then what follows it
 module _ (s : List ℕ) {c : Counts} (e : firstFault (headerTests s) (countsOf s) ≡ Valid c) where

@@ -1,6 +1,5 @@
 pub mod Reading
 pub mod Refusals
-pub mod Letters
 pub mod Decoding
 pub mod Encoding
 pub mod Limits

@@ -1,40 +1,13 @@
 // format: reading the file of an automaton (document 01, 'The book file', and its refusals 1 to 9).
-// Each function computes one definition of specs/. crates/file_laws/proofs/Promise.antt says what callers may rely on.
+// Each function computes one definition of specs/. file_laws' proofs/Promise.antt says what callers may rely on.
 ghost use mathlib.Core.Path.{_≡_};
-ghost use Rattle.format.specs.Reading.{readingOf, numberOf};
+ghost use Rattle.format.specs.Reading.{readingOf};
+pub use file_parts::Counts;
+pub use file_parts::Reading;
+pub use file_parts::fields;
+pub use file_parts::letters;
 
-mod arcs;
 mod body;
-pub mod fields;
-mod header;
-pub mod letters;
-
-// The counts that a file's header says: letters, states, registers, register symbols, arcs.
-pub struct Counts {
-    pub letters: usize,
-    pub states: usize,
-    pub registers: usize,
-    pub symbols: usize,
-    pub arcs: usize,
-}
-
-// What reading a file answers: its counts, or the number of its first fault (1 to 9).
-pub enum Reading {
-    Valid(Counts),
-    Refused(u8),
-}
-
-impl Reading {
-    // The number of the fault; 0 of a valid file. Refuses nothing. Cost: constant.
-    pub fn number(self) -> u8
-        ensures { λ r. ⌜ r ≡ numberOf self ⌝ }
-    {
-        match self {
-            Reading::Valid(_) => 0,
-            Reading::Refused(n) => n,
-        }
-    }
-}
 
 // Answers the counts of a valid file, and of any other the number of the fault that reading from left to right meets first:
 // 1 the file ends inside a part (the header's 12 bytes, the letters, the flags, an arc's 4 bytes, its operations), each looked
@@ -44,7 +17,7 @@ impl Reading {
 pub fn read(file: &[u8]) -> Reading
     ensures { λ r. ⌜ r ≡ readingOf (now (file .entry)) ⌝ }
 {
-    let header = header::read_header(file);
+    let header = file_parts::header::read_header(file);
     let Reading::Valid(c) = header else {
         return header;
     };

@@ -12,10 +12,10 @@ use lib.ListN.{drop, drop-of-length-le, getD, length, length-append, length-map,
 use lib.Seq.{drop-cons, getD-drop, getD-take}
 use Rattle.automata.specs.Joins.{bothFinal}
 use Rattle.automata.proofs.ListLaws.{map-append}
-use Rattle.format.specs.declared.Counts.{Counts}
+use Rattle.file_parts.specs.declared.Counts.{Counts}
 use Rattle.format.specs.Decoding.{isFinal}
 use Rattle.format.specs.Encoding.{flagByte}
-use Rattle.format.specs.Reading.{flagBytes}
+use Rattle.file_parts.specs.Parts.{flagBytes}
 
 -- beside a final state, the flags are those of the other; beside another, 00
 final-row : (F : List Bool) → map (λ (y : Bool). true && y) F ≡ F

@@ -5,13 +5,15 @@ use Prim.Native.Nat.{ℕ, _+_, _-_, _*_, max}
 use native.Mathlib.Omega.{arith}
 use lib.ListN.{length}
 use Rattle.automata.specs.Automaton.{Arc, Automaton, letters, states}
-use Rattle.automata.specs.Joins.{arcLeft, arcRight, bothArcs, bothFinal, intersection, leftArcs, rightArcs}
-use Rattle.format.specs.declared.Counts.{Counts}
+use Rattle.automata.specs.Joins.{arcLeft, arcRight, bothFinal, intersection}
+use Rattle.file_parts.specs.declared.Counts.{Counts}
 use Rattle.format.specs.Encoding.{arcsBytes, bytesOf, flagByte, headerBytes, sizes}
-use Rattle.writing.proofs.ArcBytes.{ops-unmoved}
+use Rattle.arc_writing.proofs.ArcBytes.{ops-unmoved}
 use Rattle.writing.proofs.FileParts.{arcs-append}
-use Rattle.intersection.specs.declared.beside.Beside.{Beside}
-use Rattle.intersection.specs.Pairing.{besideArc, emptyWith, jointWith}
+use Rattle.pairing.proofs.Groups.{arc-groups}
+use Rattle.joint_arcs.specs.declared.beside.Beside.{Beside}
+use Rattle.joint_arcs.specs.Writing.{besideArc}
+use Rattle.pairing.specs.Pairing.{emptyWith, jointWith}
 use Rattle.intersection.proofs.FlagLaws.{both-length}
 
 -- where empty moves of the first stand, beside n states; and those of the second, which has n states, beside m
@@ -46,17 +48,12 @@ module _ (a b : Automaton) where
       sym (append-assoc (headerBytes (sizes (intersection a b))) (a .alphabet) rest) ∙ ap (λ (d : Counts). (headerBytes d ++ a .alphabet) ++ rest) e
 
   module _ {m n k : ℕ} (sa : states a ≡ m) (sb : states b ≡ n) (ra : a .registers - 1 ≡ k) where
-    -- joint arcs, empty moves of the first, empty moves of the second
-    pub arc-groups : intersection a b .arcs ≡ flatMap (jointWith n k (b .arcs)) (a .arcs) ++ (emptyWith (arcLeft n) n (a .arcs) ++ emptyWith (arcRight n k) m (b .arcs))
-    unfolding intersection bothArcs leftArcs rightArcs
-    arc-groups = rw (sa, sb, ra)
-
     pub arc-parts : arcsBytes (intersection a b .arcs)
         ≡ arcsBytes (flatMap (jointWith n k (b .arcs)) (a .arcs)) ++ (arcsBytes (emptyWith (besideArc (ofFirst n)) n (a .arcs)) ++ arcsBytes (emptyWith (besideArc (ofSecond m n k)) m (b .arcs)))
     arc-parts =
         let joint = flatMap (jointWith n k (b .arcs)) (a .arcs) in
         let first : arcLeft n ≡ besideArc (ofFirst n) = λ i x j. left-beside n x j i in
         let second : arcRight n k ≡ besideArc (ofSecond m n k) = λ i y j. right-beside m n k y j i in
-        ap arcsBytes (arc-groups ∙ ap₂ (λ (f g : Arc → ℕ → Arc). joint ++ (emptyWith f n (a .arcs) ++ emptyWith g m (b .arcs))) first second)
+        ap arcsBytes (arc-groups a b sa sb ra ∙ ap₂ (λ (f g : Arc → ℕ → Arc). joint ++ (emptyWith f n (a .arcs) ++ emptyWith g m (b .arcs))) first second)
         ∙ arcs-append joint (emptyWith (besideArc (ofFirst n)) n (a .arcs) ++ emptyWith (besideArc (ofSecond m n k)) m (b .arcs))
         ∙ ap (λ (l : List ℕ). arcsBytes joint ++ l) (arcs-append (emptyWith (besideArc (ofFirst n)) n (a .arcs)) (emptyWith (besideArc (ofSecond m n k)) m (b .arcs)))

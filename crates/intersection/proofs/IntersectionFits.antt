@@ -11,18 +11,18 @@ use Rattle.automata.specs.Automaton.{Arc, Automaton}
 use Rattle.automata.specs.Joins.{alike, arcBoth, arcFrom, arcLeft, arcRight, bothArcs, intersection, isEmptyMove, leftArcs, movedOp, rightArcs}
 use Rattle.automata.specs.Lists.{Each, countFrom, keep}
 use Rattle.automata.proofs.ListLaws.{countFrom-iff, each-join, mem-each}
-use Rattle.format.specs.declared.Counts.{Counts}
+use Rattle.file_parts.specs.declared.Counts.{Counts}
 use Rattle.format.specs.Encoding.{sizes}
 use Rattle.format.specs.Limits.{Fits}
 use Rattle.file_laws.proofs.Fitting.{ArcFits, OpFits, arcs-fit, fits-by}
-use Rattle.writing.proofs.ArcBytes.{ops-unmoved}
+use Rattle.arc_writing.proofs.ArcBytes.{ops-unmoved}
 use Rattle.joining.specs.Joining.{beyond}
 use Rattle.joining.proofs.EachLaws.{each-flatMap, each-imply, each-keep, each-map}
 use Rattle.joining.proofs.Limits.{FewOps, within}
 use Rattle.joining.proofs.MovedFits.{Room, arc-moved, ops-moved}
-use Rattle.intersection.proofs.ArcsOf.{joint-ops}
+use Rattle.pairing.proofs.ArcsOf.{joint-ops}
 use Rattle.intersection.proofs.IntersectionBytes.{intersection-counts}
-use Rattle.intersection.proofs.Numbering.{pair-below}
+use Rattle.joint_arcs.proofs.Numbering.{pair-below}
 
 each-apply : {A : Type 0} (P Q : A → Type 0) (l : List A) → Each (λ (x : A). P x → Q x) l → Each P l → Each Q l
 each-apply P Q [] f h = tt

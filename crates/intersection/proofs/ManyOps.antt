@@ -13,7 +13,7 @@ use Rattle.writing.specs.declared.Written.the-variants.{Refused}
 use Rattle.joining.specs.Joining.{beyond, manyCounts, manyOps, writtenOf}
 use Rattle.joining.proofs.EachLaws.{each-imply}
 use Rattle.joining.proofs.Limits.{FewOps, none-passes}
-use Rattle.intersection.specs.Pairing.{withArcs}
+use Rattle.pairing.specs.Pairing.{withArcs}
 
 pub many-refused : (x : Automaton) (space : ℕ) → any manyOps (x .arcs) ≡ true → writtenOf x space ≡ Refused 11 0
 unfolding writtenOf beyond

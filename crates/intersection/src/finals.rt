@@ -4,7 +4,7 @@ ghost use mathlib.Core.List.{map};
 ghost use Prim.Native.Nat.{_+_, _*_, _≤_};
 ghost use lib.ListN.{length};
 ghost use Rattle.automata.specs.Joins.{bothFinal};
-ghost use Rattle.format.specs.declared.Reading.the-variants.{Valid};
+ghost use Rattle.file_parts.specs.declared.Reading.the-variants.{Valid};
 ghost use Rattle.format.specs.Reading.{readingOf};
 ghost use Rattle.format.specs.Decoding.{automatonOf};
 ghost use Rattle.format.specs.Encoding.{flagByte};

@@ -11,23 +11,20 @@ ghost use Rattle.format.specs.Limits.{Ranges, Fits};
 ghost use Rattle.writing.specs.Placing.{Appended};
 ghost use Rattle.writing.specs.Answers.{outputOf};
 ghost use Rattle.joining.specs.Joining.{Joinable, writtenOf};
-ghost use Rattle.intersection.specs.Pairing.{withArcs};
-use beside::Beside;
-use beside::write_empty_moves;
-use counting::count_arcs;
+ghost use Rattle.pairing.specs.Pairing.{withArcs};
 use finals::write_both_flags;
 use format::Counts;
 use joining::answer::decide;
 use joining::answer::is_beyond;
 use joining::answer::larger;
-use joint::write_joint_arcs;
+use joint_arcs::beside::Beside;
+use joint_arcs::beside::write_empty_moves;
+use joint_arcs::joint::write_joint_arcs;
+use pairing::count_arcs;
 use writing::Written;
 use writing::front::write_front;
 
-mod beside;
-mod counting;
 mod finals;
-mod joint;
 
 // The counts of the intersection of automata with these counts, but this many arcs.
 fn product_counts(a: Counts, b: Counts, arcs: usize) -> Counts

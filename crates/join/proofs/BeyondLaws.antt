@@ -7,7 +7,7 @@ use lib.Dec.{T, ltb, ltb→lt}
 use Rattle.automata.specs.Automaton.{Automaton}
 use Rattle.automata.specs.Lists.{any}
 use Rattle.automata.proofs.ListLaws.{any-iff, each-mem, or-iff}
-use Rattle.format.specs.declared.Counts.{Counts}
+use Rattle.file_parts.specs.declared.Counts.{Counts}
 use Rattle.format.specs.Encoding.{sizes}
 use Rattle.joining.specs.Joining.{beyond, manyCounts, manyOps}
 use Rattle.joining.proofs.Limits.{FewOps, within}

@@ -3,7 +3,3 @@ pub mod Promise
 -- the laws behind it
 pub mod Outcomes
 pub mod BeyondLaws
-pub mod JoinedFits
--- what the functions' proofs go by
-pub mod JoinedBytes
-pub mod ConcatenationBytes

@@ -15,7 +15,7 @@ use Rattle.automata.proofs.Laws.{closing}
 use Rattle.format.specs.Decoding.{automatonOf}
 use Rattle.format.specs.Encoding.{bytesOf}
 use Rattle.format.specs.Limits.{Fits}
-use Rattle.format.specs.Reading.{numberOf}
+use Rattle.file_parts.specs.Parts.{numberOf}
 use Rattle.format.specs.Refusals.{FirstHolds, faultOf}
 use Rattle.file_laws.proofs.Promise.{round-trip}
 use Rattle.file_laws.proofs.Refusals.{Decide, Decides, NoneHolds, Outcome, at-least, decided, fault-decided, first-exactly, first-some, less-decided, letters-decided, no-fault, none-first, refused-or-not, same-letters}
@@ -26,7 +26,7 @@ use Rattle.writing.specs.declared.Written.the-variants.{Bytes, Refused}
 use Rattle.joining.specs.Joining.{beyond, closeTests, closedOf, joinTests, joinedOf}
 use Rattle.join.specs.Promises.{Alike, Beyond, Closed, FileOf, Joined, TwoJoined, closeConditions, joinConditions}
 use Rattle.join.proofs.BeyondLaws.{beyond-iff, not-beyond}
-use Rattle.join.proofs.JoinedFits.{closure-fits}
+use Rattle.closures.proofs.ClosureFits.{closure-fits}
 
 -- ---- the joined automaton x
 beyond-decided : (x : Automaton) → Decides (beyond x, 11, 0) (Beyond x, 11, 0)

@@ -18,7 +18,8 @@ use Rattle.writing.specs.declared.Written.{Written}
 use Rattle.joining.specs.Joining.{beyond, closedOf, joinedOf}
 use Rattle.intersection.proofs.IntersectionFits.{intersection-fits}
 use Rattle.join.specs.Promises.{Closed, InBoth, InEither, TwoJoined}
-use Rattle.join.proofs.JoinedFits.{concatenation-fits, union-fits}
+use Rattle.unions.proofs.UnionFits.{union-fits}
+use Rattle.concatenations.proofs.ConcatenationFits.{concatenation-fits}
 use Rattle.join.proofs.Outcomes.{one-closed, two-joined}
 
 -- ---- what a call that joins two files answers and leaves

@@ -13,10 +13,6 @@ use joining::files::Files;
 use joining::files::read_files;
 use writing::Written;
 
-mod closures;
-mod concatenations;
-mod unions;
-
 // Writes an automaton that accepts the words of either: a new state 0 with an empty move into each.
 // Refuses, in this order: 1 to 9, the first file's fault; 1 to 9, the second's; 10, the letter lists differ; 11, the joined
 // automaton beyond a limit on states or arcs; 25, the output shorter than the result.

@@ -7,7 +7,7 @@ use borrow.Author.Tests.{ltb-false}
 use lib.Dec.{ltb}
 use lib.ListN.{length}
 use Rattle.automata.specs.Automaton.{Automaton}
-use Rattle.format.specs.declared.Counts.{Counts}
+use Rattle.file_parts.specs.declared.Counts.{Counts}
 use Rattle.format.specs.Encoding.{bytesOf, sizes}
 use Rattle.automata.specs.Lists.{Each}
 use Rattle.writing.specs.declared.Written.the-variants.{Bytes}

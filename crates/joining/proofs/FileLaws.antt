@@ -13,9 +13,10 @@ use Rattle.automata.specs.Lists.{sameBy}
 use Rattle.automata.specs.Automaton.{Automaton}
 use Rattle.automata.specs.Joins.{closure}
 use Rattle.automata.proofs.ListLaws.{sameBy-iff, eqb-iff, bool-ext}
-use Rattle.format.specs.declared.Counts.{Counts}
-use Rattle.format.specs.declared.Reading.the-variants.{Valid, Refused as Faulty}
-use Rattle.format.specs.Reading.{countsOf, letterBytes, numberOf, readingOf}
+use Rattle.file_parts.specs.declared.Counts.{Counts}
+use Rattle.file_parts.specs.declared.Reading.the-variants.{Valid, Refused as Faulty}
+use Rattle.file_parts.specs.Parts.{countsOf, letterBytes, numberOf}
+use Rattle.format.specs.Reading.{readingOf}
 use Rattle.format.specs.Refusals.{faultOf, unlessRefused}
 use Rattle.format.specs.Decoding.{automatonOf}
 use Rattle.format.specs.Encoding.{bytesOf}

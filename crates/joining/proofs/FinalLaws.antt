@@ -12,11 +12,12 @@ use lib.ListN.{drop, drop-of-length-le, getD, length, take, length-map}
 use lib.Seq.{drop-cons}
 use Rattle.automata.specs.Automaton.{Automaton, Arc}
 use Rattle.automata.specs.Joins.{finalStates, arcFrom, clearing}
-use Rattle.format.specs.declared.Counts.{Counts}
-use Rattle.format.specs.declared.Reading.the-variants.{Valid}
+use Rattle.file_parts.specs.declared.Counts.{Counts}
+use Rattle.file_parts.specs.declared.Reading.the-variants.{Valid}
 use Rattle.format.specs.Decoding.{automatonOf, decoded, isFinal}
 use Rattle.format.specs.Encoding.{flagByte}
-use Rattle.format.specs.Reading.{flagBytes, readingOf}
+use Rattle.file_parts.specs.Parts.{flagBytes}
+use Rattle.format.specs.Reading.{readingOf}
 use Rattle.file_laws.proofs.ValidLaws.{file-seen, valid-decoded, valid-sizes}
 use Rattle.file_laws.proofs.CanonicalLaws.{flags-same}
 use Rattle.writing.specs.Placing.{Appended}

@@ -9,8 +9,11 @@ use lib.Dec.{ltb}
 use lib.ListN.{length}
 use Rattle.automata.specs.Automaton.{Arc, Automaton}
 use Rattle.automata.specs.Lists.{any}
-use Rattle.format.specs.declared.Counts.{Counts}
+use Rattle.file_parts.specs.declared.Counts.{Counts}
 use Rattle.format.specs.Encoding.{sizes}
+use Rattle.format.specs.Limits.{Fits}
+use Rattle.file_parts.specs.Parts.{ascending}
+use Rattle.file_laws.proofs.Fitting.{ArcFits, fits-by}
 use Rattle.automata.specs.Lists.{Each}
 use Rattle.joining.specs.Joining.{manyCounts, beyond, manyOps}
 use Rattle.joining.proofs.EachLaws.{each-imply}
@@ -58,3 +61,22 @@ module _ (x : Automaton) where
   within e =
       let p = or-neither (manyCounts (sizes x)) (any manyOps (x .arcs)) e in
       (few-counts (sizes x) (p .0), each-imply (λ (a : Arc). manyOps a ≡ false) FewOps (λ (a : Arc) (k : manyOps a ≡ false). ltb-false 8 (length (a .ops)) k) (x .arcs) (none-passes manyOps (x .arcs) (p .1)))
+
+-- ---- ranges and arcs make it so
+module _ (x : Automaton) (letters : length (x .alphabet) ≤ 64) (ascends : ascending (x .alphabet) ≡ true)
+    (some-state : 1 ≤ length (x .finals)) (some-register : 1 ≤ x .registers) (some-symbol : 1 ≤ x .symbols) (symbols : x .symbols ≤ 16) where
+  pub joined-fits : Few (sizes x) → Each (ArcFits (sizes x)) (x .arcs) → Fits x
+  joined-fits f h = fits-by x (record {
+    letters = letters;
+    some-state = some-state;
+    states = f .states;
+    some-register = some-register;
+    registers = f .registers;
+    some-symbol = some-symbol;
+    symbols = symbols;
+    arcs = f .arcs;
+  }) ascends h
+
+-- 8 operations at most, of arcs within limits
+pub few-ops : (d : Counts) (l : List Arc) → Each (ArcFits d) l → Each FewOps l
+few-ops d l h = each-imply (ArcFits d) FewOps (λ x f. f .few-ops) l h

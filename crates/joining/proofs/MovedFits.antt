@@ -11,10 +11,10 @@ use Rattle.automata.specs.Automaton.{Arc, KeepsZero, Op, reads, register, symbo
 use Rattle.automata.specs.Joins.{arcFrom, clearing, moved, movedArc, movedOp, emptyMove, finalStates}
 use Rattle.automata.specs.Lists.{countFrom}
 use Rattle.automata.specs.Unfolding.{readZero}
-use Rattle.format.specs.declared.Counts.{Counts}
+use Rattle.file_parts.specs.declared.Counts.{Counts}
 use Rattle.file_laws.proofs.Fitting.{ArcFits, OpFits}
 use Rattle.automata.specs.Lists.{Each}
-use Rattle.writing.proofs.ArcBytes.{cleared, cleared-count, clearing-few, clearing-more, ops-unmoved}
+use Rattle.arc_writing.proofs.ArcBytes.{cleared, cleared-count, clearing-few, clearing-more, ops-unmoved}
 use Rattle.joining.proofs.EachLaws.{each-imply, each-map}
 
 -- ---- an operation

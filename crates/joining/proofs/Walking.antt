@@ -10,21 +10,22 @@ use lib.Seq.{drop-drop, getD-drop}
 use Rattle.automata.specs.Automaton.{Arc}
 use Rattle.automata.specs.Joins.{movedArc, movedOp, clearing, emptyMove}
 use Rattle.automata.proofs.SearchLaws.{at}
-use Rattle.format.specs.declared.Counts.{Counts}
-use Rattle.format.specs.declared.Reading.the-variants.{Valid}
+use Rattle.file_parts.specs.declared.Counts.{Counts}
+use Rattle.file_parts.specs.declared.Reading.the-variants.{Valid}
 use Rattle.format.specs.Limits.{Ranges}
 use Rattle.format.specs.Encoding.{arcBytes, arcsBytes}
 use Rattle.format.specs.Decoding.{arcOf, arcsOf, automatonOf, letterOf, opsOf}
-use Rattle.format.specs.Reading.{arcSize, arcTests, arcsTests, firstArc, readingOf}
+use Rattle.file_parts.specs.Parts.{arcSize, arcTests, arcsTests, firstArc}
+use Rattle.format.specs.Reading.{readingOf}
 use Rattle.format.specs.Placed.{whole}
 use Rattle.file_laws.proofs.Fitting.{ArcFits}
 use Rattle.automata.proofs.ListLaws.{each-split}
-use Rattle.format.proofs.Tests.{Hold}
+use Rattle.file_parts.proofs.Tests.{Hold}
 use Rattle.file_laws.proofs.ArcLaws.{arc-fits, arcs-seen, ops-count}
-use Rattle.format.proofs.Seen.{arc-seen}
-use Rattle.format.proofs.Steps.{down, none-left}
+use Rattle.file_arcs.proofs.ArcSeen.{arc-seen}
+use Rattle.file_parts.proofs.Steps.{down, none-left}
 use Rattle.file_laws.proofs.ValidLaws.{file-seen, valid-arcs, valid-ranges}
-use Rattle.writing.proofs.ArcBytes.{arc-length}
+use Rattle.arc_writing.proofs.ArcBytes.{arc-length}
 use Rattle.joining.proofs.FinalLaws.{returning}
 
 -- the arc at a place, byte by byte

@@ -9,9 +9,10 @@ use lib.ListN.{length}
 use Rattle.automata.specs.Lists.{any, sameBy}
 use Rattle.automata.specs.Automaton.{Arc, Automaton}
 use Rattle.automata.specs.Joins.{closure}
-use Rattle.format.specs.declared.Counts.{Counts}
-use Rattle.format.specs.declared.Reading.the-variants.{Valid}
-use Rattle.format.specs.Reading.{countsOf, readingOf}
+use Rattle.file_parts.specs.declared.Counts.{Counts}
+use Rattle.file_parts.specs.declared.Reading.the-variants.{Valid}
+use Rattle.file_parts.specs.Parts.{countsOf}
+use Rattle.format.specs.Reading.{readingOf}
 use Rattle.format.specs.Refusals.{faultOf, unlessRefused}
 use Rattle.format.specs.Decoding.{automatonOf}
 use Rattle.format.specs.Encoding.{sizes, bytesOf}

@@ -5,14 +5,14 @@ ghost use mathlib.Core.Option.{none};
 ghost use Prim.Native.Nat.{ℕ, _+_, _<_, _≤_};
 ghost use lib.ListN.{length};
 ghost use Rattle.automata.specs.Joins.{arcFrom, finalStates, clearing};
-ghost use Rattle.format.specs.declared.Reading.the-variants.{Valid};
+ghost use Rattle.file_parts.specs.declared.Reading.the-variants.{Valid};
 ghost use Rattle.format.specs.Reading.{readingOf};
 ghost use Rattle.format.specs.Decoding.{isFinal, automatonOf};
 ghost use Rattle.format.specs.Encoding.{arcsBytes};
 ghost use Rattle.writing.specs.Placing.{Appended};
+use arc_writing::Fields;
+use arc_writing::write_clearing_arc;
 use format::Counts;
-use writing::arcs::Fields;
-use writing::arcs::write_clearing_arc;
 
 // How many of the flags are those of final states.
 fn count_flags(flags: &[u8]) -> usize

@@ -4,17 +4,18 @@ ghost use mathlib.Core.List.{map};
 ghost use Prim.Native.Nat.{_+_, _<_, _≤_};
 ghost use lib.ListN.{length, drop};
 ghost use Rattle.automata.specs.Joins.{emptyMove, movedArc};
-ghost use Rattle.format.specs.declared.Reading.the-variants.{Valid};
-ghost use Rattle.format.specs.Reading.{arcSize, readingOf};
+ghost use Rattle.file_parts.specs.declared.Reading.the-variants.{Valid};
+ghost use Rattle.file_parts.specs.Parts.{arcSize};
+ghost use Rattle.format.specs.Reading.{readingOf};
 ghost use Rattle.format.specs.Decoding.{arcOf, automatonOf};
 ghost use Rattle.format.specs.Encoding.{arcBytes, arcsBytes};
 ghost use Rattle.writing.specs.Placing.{Appended};
+use arc_writing::Fields;
+use arc_writing::write_arc;
+use arc_writing::write_plain_arc;
 use format::Counts;
 use format::fields::arc_size;
 use format::fields::byte;
-use writing::arcs::Fields;
-use writing::arcs::write_arc;
-use writing::arcs::write_plain_arc;
 
 // An added empty move from state 0 to the state t.
 pub fn write_entry(out: &mut [u8], at: usize, t: usize) -> usize

@@ -8,7 +8,7 @@ use native.Mathlib.Decide.{decLt, ℕ-discrete}
 use native.Mathlib.Omega.{arith}
 use lib.Dec.{T}
 use Rattle.automata.proofs.ListLaws.{or-iff}
-use Rattle.explore.specs.Map.{arcsAt}
+use Rattle.passing.specs.Map.{arcsAt}
 use Rattle.memory.specs.Chains.{last}
 use Rattle.memory.specs.Fields.{field}
 use Rattle.memory.proofs.Laws.{OnChain, last-is, off-chain, on-chain}

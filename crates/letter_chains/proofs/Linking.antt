@@ -4,7 +4,7 @@ use mathlib.Core.Logic.{inr}
 use mathlib.Core.List.{List}
 use Prim.Native.Nat.{_+_, _/_, _<_, _≤_, ℕ}
 use native.Mathlib.Omega.{arith}
-use Rattle.explore.specs.Map.{arcsAt, blockEnd}
+use Rattle.passing.specs.Map.{arcsAt, blockEnd}
 use Rattle.memory.specs.Chains.{Chain, noEntry}
 use Rattle.memory.specs.Fields.{Apart, field}
 use Rattle.memory.specs.Frame.{Beside, Kept}

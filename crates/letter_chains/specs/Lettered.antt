@@ -3,7 +3,7 @@ use mathlib.Core.Path.{_≡_}
 use mathlib.Core.List.{List}
 use Prim.Native.Nat.{ℕ, _/_, _≤_, _<_}
 use lib.ListN.{length}
-use Rattle.explore.specs.Map.{arcsAt, blockEnd}
+use Rattle.passing.specs.Map.{arcsAt, blockEnd}
 use Rattle.memory.specs.Chains.{Chain}
 use Rattle.memory.specs.Fields.{field}
 use Rattle.stepping.specs.Stepping.{endAt, startAt}

@@ -5,7 +5,7 @@ ghost use mathlib.Core.List.{List};
 ghost use Prim.Native.Nat.{ℕ, _≤_, _<_};
 ghost use lib.ListN.{length};
 ghost use Rattle.automata.specs.Live.{PlainArc, byLetter};
-ghost use Rattle.explore.specs.Map.{blockEnd};
+ghost use Rattle.passing.specs.Map.{blockEnd};
 ghost use Rattle.memory.specs.Frame.{Kept};
 ghost use Rattle.sets.specs.Sets.{view, Settled};
 ghost use Rattle.stepping.specs.Stepping.{FromList, Held, Starts};

@@ -5,9 +5,9 @@ use mathlib.Core.List.{List, [], _∷_}
 use lib.ListN.{take}
 use Rattle.text.specs.Digits.{decimalOf, hexOf}
 use Rattle.text.specs.Line.{ascii, line}
-use Rattle.format.specs.declared.Counts.{Counts}
-use Rattle.format.specs.declared.Reading.{Reading}
-use Rattle.format.specs.declared.Reading.the-variants.{Valid, Refused as Fault}
+use Rattle.file_parts.specs.declared.Counts.{Counts}
+use Rattle.file_parts.specs.declared.Reading.{Reading}
+use Rattle.file_parts.specs.declared.Reading.the-variants.{Valid, Refused as Fault}
 use Rattle.table.specs.declared.Membership.{Membership}
 use Rattle.table.specs.declared.Membership.the-variants.{Accepted, Rejected, Refused}
 use Rattle.writing.specs.declared.Written.{Written}

@@ -3,8 +3,8 @@
 use mathlib.Core.Path.{_≡_}
 use mathlib.Core.List.{List}
 use Prim.Native.Nat.{ℕ}
-use Rattle.format.specs.declared.Reading.{Reading as ReadingAnswer}
-use Rattle.format.specs.declared.Reading.the-variants.{Valid, Refused as Fault}
+use Rattle.file_parts.specs.declared.Reading.{Reading as ReadingAnswer}
+use Rattle.file_parts.specs.declared.Reading.the-variants.{Valid, Refused as Fault}
 use Rattle.table.specs.declared.Membership.{Membership as MembershipAnswer}
 use Rattle.table.specs.declared.Membership.the-variants.{Accepted, Rejected, Refused}
 use Rattle.writing.specs.declared.Written.{Written as WrittenAnswer}

@@ -11,7 +11,7 @@ use lib.ListN.{getD, length}
 use Rattle.automata.specs.Automaton.{stay}
 use Rattle.automata.specs.Live.{PlainArc}
 use Rattle.automata.proofs.LiveLaws.{run-below}
-use Rattle.explore.specs.Map.{KeptBut, arcsAt, blockEnd, startsAt}
+use Rattle.passing.specs.Map.{KeptBut, arcsAt, blockEnd, startsAt}
 use Rattle.memory.specs.Fields.{field}
 use Rattle.memory.specs.Frame.{Kept}
 use Rattle.memory.proofs.Laws.{field-same}

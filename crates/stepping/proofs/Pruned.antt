@@ -11,8 +11,8 @@ use lib.Dec.{T, eqb, ltb}
 use Rattle.automata.specs.Automaton.{stay}
 use Rattle.automata.proofs.LiveLaws.{run-below}
 use Rattle.automata.proofs.RunLaws.{joined}
-use Rattle.explore.specs.Map.{KeptBut, arcsAt, blockEnd, startsAt}
-use Rattle.explore.proofs.Frames.{but-high, but-low, but-same, but-then, but-wider}
+use Rattle.passing.specs.Map.{KeptBut, arcsAt, blockEnd, startsAt}
+use Rattle.meeting.proofs.Frames.{but-high, but-low, but-same, but-then, but-wider}
 use Rattle.memory.specs.Fields.{field}
 use Rattle.memory.specs.Frame.{Kept}
 use Rattle.memory.proofs.Laws.{field-same}

@@ -8,8 +8,8 @@ use native.Mathlib.Omega.{arith}
 use borrow.Author.Tests.{eq-eqb, ne-eqb}
 use lib.Dec.{T, eqb}
 use Rattle.automata.proofs.ListLaws.{and-iff, eqb-iff, or-iff}
-use Rattle.explore.specs.Map.{KeptBut, arcsAt, startsAt}
-use Rattle.explore.proofs.Frames.{but-high, but-low, but-same, but-then}
+use Rattle.passing.specs.Map.{KeptBut, arcsAt, startsAt}
+use Rattle.meeting.proofs.Frames.{but-high, but-low, but-same, but-then}
 use Rattle.memory.specs.Fields.{field}
 use Rattle.memory.specs.Frame.{Kept}
 use Rattle.memory.proofs.Laws.{field-same}

@@ -8,7 +8,7 @@ use native.Mathlib.Decide.{ℕ-discrete}
 use native.Mathlib.Omega.{arith}
 use lib.Dec.{T, eqb, eqb→eq}
 use Rattle.automata.proofs.ListLaws.{and-iff, eqb-iff, iff-trans, or-iff}
-use Rattle.explore.specs.Map.{arcsAt}
+use Rattle.passing.specs.Map.{arcsAt}
 use Rattle.memory.specs.Fields.{field}
 use Rattle.memory.specs.Frame.{Kept}
 use Rattle.memory.proofs.Laws.{kept-same, kept-then, kept-wider}

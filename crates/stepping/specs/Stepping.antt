@@ -10,7 +10,7 @@ use lib.Dec.{T, ltb}
 use lib.ListN.{length}
 use Rattle.automata.specs.Automaton.{Run}
 use Rattle.automata.specs.Live.{Moves, PlainArc}
-use Rattle.explore.specs.Map.{arcsAt, blockEnd, startsAt}
+use Rattle.passing.specs.Map.{arcsAt, blockEnd, startsAt}
 use Rattle.memory.specs.Fields.{field}
 use Rattle.sets.specs.Sets.{bit}
 use Rattle.sets.specs.Rows.{related, row}

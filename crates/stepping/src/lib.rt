@@ -8,7 +8,7 @@ ghost use Prim.Native.Nat.{ℕ, _+_, _*_, _≤_, _<_};
 ghost use lib.Dec.{T, eqb};
 ghost use lib.ListN.{length};
 ghost use Rattle.automata.specs.Live.{PlainArc, byLetter};
-ghost use Rattle.explore.specs.Map.{blockEnd};
+ghost use Rattle.passing.specs.Map.{blockEnd};
 ghost use Rattle.memory.specs.Frame.{Kept};
 ghost use Rattle.sets.specs.Sets.{inSet, view, Settled};
 ghost use Rattle.sets.specs.Rows.{related};

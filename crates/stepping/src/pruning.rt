@@ -6,7 +6,7 @@ ghost use mathlib.Core.Logic.{_⊎_};
 ghost use Prim.Native.Nat.{ℕ, _+_, _/_, _%_, _≤_, _<_};
 ghost use lib.Dec.{T};
 ghost use lib.ListN.{length};
-ghost use Rattle.explore.specs.Map.{arcsAt, blockEnd, startsAt, KeptBut};
+ghost use Rattle.passing.specs.Map.{arcsAt, blockEnd, startsAt, KeptBut};
 ghost use Rattle.memory.specs.Fields.{field};
 ghost use Rattle.memory.specs.Frame.{Kept};
 ghost use Rattle.sets.specs.Sets.{inSet};

@@ -9,17 +9,18 @@ use lib.Dec.{T}
 use lib.ListN.{length}
 use Rattle.automata.specs.Automaton.{Automaton, WellFormed, letters}
 use Rattle.automata.specs.Unfolding.{configurations}
-use Rattle.explore.specs.Arcs.{Indexed, Linked, Walkable}
+use Rattle.passing.specs.Arcs.{Indexed, Linked, Walkable}
 use Rattle.explore.specs.Explores.{Explores, exploredOf}
-use Rattle.explore.specs.Map.{Placed}
-use Rattle.explore.specs.declared.Explored.the-variants.{Tables, TooMany}
-use Rattle.explore.proofs.Tabling.{configured-kept}
+use Rattle.passing.specs.Map.{Placed}
+use Rattle.meeting.specs.declared.Explored.the-variants.{Tables, TooMany}
+use Rattle.meeting.proofs.Tabling.{configured-kept}
 use Rattle.format.specs.Decoding.{automatonOf, decoded}
-use Rattle.format.specs.Reading.{numberOf, readingOf}
+use Rattle.file_parts.specs.Parts.{numberOf}
+use Rattle.format.specs.Reading.{readingOf}
 use Rattle.format.specs.Refusals.{faultOf}
-use Rattle.format.specs.declared.Counts.{Counts}
-use Rattle.format.specs.declared.Reading.the-variants.{Refused as Fault, Valid}
-use Rattle.format.proofs.Steps.{letters-length}
+use Rattle.file_parts.specs.declared.Counts.{Counts}
+use Rattle.file_parts.specs.declared.Reading.the-variants.{Refused as Fault, Valid}
+use Rattle.file_parts.proofs.Steps.{letters-length}
 use Rattle.file_laws.proofs.Refusals.{has-fault}
 use Rattle.file_laws.proofs.ValidLaws.{valid-decoded, valid-lies, valid-ranges, valid-wellFormed}
 use Rattle.memory.specs.Frame.{Kept}

@@ -21,10 +21,10 @@ use Rattle.automata.proofs.ListLaws.{at-map, at-mem, getElem?-lt, getElem?-some
 use Rattle.automata.proofs.LiveLaws.{epsilonClosure-closed, epsilonClosure-iff, in-table, length-rounds, length-table, run-below}
 use Rattle.automata.proofs.UnfoldingLaws.{first-configuration, within}
 use Rattle.explore.specs.Explores.{Block, Explores, exploredOf, startOf}
-use Rattle.explore.specs.Map.{arcsAt, configs, mapEnd, startsAt}
-use Rattle.explore.specs.Tables.{fieldsOf, listed}
-use Rattle.explore.specs.declared.Explored.the-variants.{Tables, TooMany}
-use Rattle.explore.proofs.Frames.{part-same}
+use Rattle.passing.specs.Map.{arcsAt, configs, mapEnd, startsAt}
+use Rattle.meeting.specs.Tables.{fieldsOf, listed}
+use Rattle.meeting.specs.declared.Explored.the-variants.{Tables, TooMany}
+use Rattle.meeting.proofs.Frames.{part-same}
 use Rattle.format.specs.Encoding.{letterByte}
 use Rattle.memory.specs.Fields.{field}
 use Rattle.memory.specs.Frame.{Kept}

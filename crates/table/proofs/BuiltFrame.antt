@@ -4,7 +4,7 @@ use mathlib.Core.List.{List}
 use Prim.Native.Nat.{_+_, _≤_, ℕ}
 use native.Mathlib.Omega.{arith}
 use Rattle.automata.specs.Automaton.{Automaton, letters}
-use Rattle.explore.specs.Map.{KeptBut, arcsAt, blockEnd}
+use Rattle.passing.specs.Map.{KeptBut, arcsAt, blockEnd}
 use Rattle.stepping.specs.Stepping.{Starts, ToldStill}
 use Rattle.stepping.proofs.BlockFrame.{SameBlock, held-same, list-kept, related-kept, starts-kept}
 use Rattle.stepping.proofs.Thinning.{rows-kept}

@@ -13,15 +13,15 @@ use Rattle.automata.proofs.ListLaws.{each-at, each-mem, getElem?-lt}
 use Rattle.automata.proofs.NumberLaws.{one-number}
 use Rattle.automata.proofs.PerformingLaws.{successors-iff}
 use Rattle.automata.proofs.UnfoldingLaws.{distinct, moves-from, moves-to, sameConfiguration-iff, within}
-use Rattle.explore.specs.Map.{configs, mapEnd}
-use Rattle.explore.specs.Packed.{Hop, hops, pack}
-use Rattle.explore.specs.Tables.{Configured}
-use Rattle.explore.proofs.Meaning.{Good, Packs, hops-packed, pack-inj, packHop}
+use Rattle.passing.specs.Map.{configs, mapEnd}
+use Rattle.passing.specs.Packed.{Hop, hops, pack}
+use Rattle.meeting.specs.Tables.{Configured}
+use Rattle.passing.proofs.Meaning.{Good, Packs, hops-packed, pack-inj, packHop}
 use Rattle.explore.proofs.Walked.{configurations-packed}
 use Rattle.format.specs.Decoding.{decoded}
 use Rattle.format.specs.Placed.{Lies}
-use Rattle.format.specs.Reading.{firstArc}
-use Rattle.format.specs.declared.Counts.{Counts}
+use Rattle.file_parts.specs.Parts.{firstArc}
+use Rattle.file_parts.specs.declared.Counts.{Counts}
 use Rattle.memory.specs.Frame.{Kept}
 use Rattle.table.specs.FileSteps.{Findable, FromFile, Outgoing, Steppable}
 use Rattle.stepping.specs.Stepping.{Held}

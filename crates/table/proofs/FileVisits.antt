@@ -11,18 +11,18 @@ use lib.Dec.{T, eqb, eqb→eq}
 use lib.ListN.{drop, getD}
 use Rattle.automata.specs.Lists.{collect, prepend}
 use Rattle.automata.proofs.ListLaws.{and-iff, eqb-iff, or-iff}
-use Rattle.explore.specs.Arcs.{ArcAt, Indexed, Linked, Walkable, placeOf}
-use Rattle.explore.specs.Map.{arcHeads, arcNexts, blockEnd, configs, mapEnd, offsets}
-use Rattle.explore.specs.Packed.{Hop, hop, hopWith, hops, performPacked}
-use Rattle.explore.specs.declared.Outcome.{Outcome}
-use Rattle.explore.specs.declared.Outcome.the-variants.{Failed, Leaves}
+use Rattle.passing.specs.Arcs.{ArcAt, Indexed, Linked, Walkable, placeOf}
+use Rattle.passing.specs.Map.{arcHeads, arcNexts, blockEnd, configs, mapEnd, offsets}
+use Rattle.passing.specs.Packed.{Hop, hop, hopWith, hops, performPacked}
+use Rattle.passing.specs.declared.Outcome.{Outcome}
+use Rattle.passing.specs.declared.Outcome.the-variants.{Failed, Leaves}
 use Rattle.explore.proofs.Going.{hop-at}
-use Rattle.explore.proofs.Linking.{hops-chosen, hopsOf, indexed-kept, linked-kept, stateOf}
-use Rattle.explore.proofs.Places.{entry-at}
-use Rattle.explore.proofs.Tabling.{configured-kept}
+use Rattle.passing.proofs.Linking.{hops-chosen, hopsOf, indexed-kept, linked-kept, stateOf}
+use Rattle.passing.proofs.Places.{entry-at}
+use Rattle.meeting.proofs.Tabling.{configured-kept}
 use Rattle.format.specs.Decoding.{letterOf}
-use Rattle.format.specs.Reading.{firstArc}
-use Rattle.format.specs.declared.Counts.{Counts}
+use Rattle.file_parts.specs.Parts.{firstArc}
+use Rattle.file_parts.specs.declared.Counts.{Counts}
 use Rattle.memory.specs.Chains.{Found, WordAt, last}
 use Rattle.memory.specs.Fields.{field}
 use Rattle.memory.specs.Frame.{Kept}

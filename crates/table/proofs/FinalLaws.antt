@@ -19,12 +19,12 @@ use Rattle.automata.specs.Unfolding.{configurations, finalSet, sameConfiguratio
 use Rattle.automata.proofs.ExplorationLaws.{known-sound}
 use Rattle.automata.proofs.ListLaws.{and-iff, at-map, at-mem, at-some, each-at, getElem?-some}
 use Rattle.automata.proofs.PerformingLaws.{successors-iff}
-use Rattle.explore.specs.Map.{configs}
-use Rattle.explore.specs.Packed.{pack}
-use Rattle.explore.proofs.Meaning.{Good, state-of}
+use Rattle.passing.specs.Map.{configs}
+use Rattle.passing.specs.Packed.{pack}
+use Rattle.passing.proofs.Meaning.{Good, state-of}
 use Rattle.format.specs.Decoding.{isFinal}
-use Rattle.format.specs.Reading.{firstArc, flagBytes}
-use Rattle.format.specs.declared.Counts.{Counts}
+use Rattle.file_parts.specs.Parts.{firstArc, flagBytes}
+use Rattle.file_parts.specs.declared.Counts.{Counts}
 use Rattle.sets.specs.Sets.{Within, inSet, view}
 use Rattle.sets.proofs.Laws.{view-is}
 use Rattle.table.specs.Finals.{flagPlace, isFinalIn, stateIn}

@@ -13,11 +13,11 @@ use Rattle.automata.specs.Lists.{Each}
 use Rattle.automata.specs.Live.{count, epsilonClosure, live, liveFrom, meets, table}
 use Rattle.automata.specs.Unfolding.{accepted, acceptedBytes, configurations, finalSet, liveCount, liveSet, plainArcs, spelledOr}
 use Rattle.automata.specs.Words.{spelling}
-use Rattle.explore.proofs.Meaning.{Good}
+use Rattle.passing.proofs.Meaning.{Good}
 use Rattle.explore.proofs.Walked.{configurations-packed}
 use Rattle.format.specs.Decoding.{decoded, isFinal}
-use Rattle.format.specs.Reading.{firstArc, flagBytes}
-use Rattle.format.specs.declared.Counts.{Counts}
+use Rattle.file_parts.specs.Parts.{firstArc, flagBytes}
+use Rattle.file_parts.specs.declared.Counts.{Counts}
 use Rattle.sets.specs.Sets.{Within, inSet, view}
 use Rattle.sets.specs.Rows.{row}
 use Rattle.sets.proofs.Laws.{count-none, count-within, meets-view}

@@ -18,10 +18,10 @@ use Rattle.automata.specs.Live.{PlainArc, byLetter, liveFrom, table}
 use Rattle.automata.specs.Unfolding.{plainArcs, spelledOr}
 use Rattle.automata.specs.Words.{letterWith, spelling}
 use Rattle.automata.proofs.ListLaws.{only-iff}
-use Rattle.format.specs.Letters.{letterFrom, letterNumber}
-use Rattle.format.specs.declared.Counts.{Counts}
-use Rattle.format.specs.declared.letters.Letter.{Letter}
-use Rattle.format.specs.declared.letters.Letter.the-variants.{At, None}
+use Rattle.file_parts.specs.Letters.{letterFrom, letterNumber}
+use Rattle.file_parts.specs.declared.Counts.{Counts}
+use Rattle.file_parts.specs.declared.letters.Letter.{Letter}
+use Rattle.file_parts.specs.declared.letters.Letter.the-variants.{At, None}
 use Rattle.memory.specs.Frame.{Kept}
 use Rattle.memory.proofs.Laws.{kept-same, kept-then}
 use Rattle.sets.specs.Sets.{Settled, Within, view}

@@ -7,12 +7,12 @@ use Prim.Native.Nat.{ℕ, _+_, _<_, _≤_}
 use lib.Dec.{T}
 use lib.ListN.{drop, getD}
 use Rattle.automata.specs.Live.{PlainArc}
-use Rattle.explore.specs.Arcs.{Indexed, Linked, Walkable}
-use Rattle.explore.specs.Map.{configs}
-use Rattle.explore.specs.Packed.{Hop, hops}
-use Rattle.explore.specs.Tables.{Configured}
-use Rattle.format.specs.Reading.{firstArc}
-use Rattle.format.specs.declared.Counts.{Counts}
+use Rattle.passing.specs.Arcs.{Indexed, Linked, Walkable}
+use Rattle.passing.specs.Map.{configs}
+use Rattle.passing.specs.Packed.{Hop, hops}
+use Rattle.meeting.specs.Tables.{Configured}
+use Rattle.file_parts.specs.Parts.{firstArc}
+use Rattle.file_parts.specs.declared.Counts.{Counts}
 use Rattle.sets.specs.Rows.{related}
 use Rattle.stepping.specs.Stepping.{FromList, Held, Room, Starts}
 

@@ -11,12 +11,12 @@ use Rattle.automata.specs.Live.{Moves, liveFrom, table}
 use Rattle.automata.specs.Unfolding.{configurations, plainArcs, spelledOr}
 use Rattle.automata.specs.Words.{spelling}
 use Rattle.explore.specs.Explores.{exploredOf}
-use Rattle.explore.specs.Map.{configs, mapEnd}
-use Rattle.explore.specs.Packed.{pack}
-use Rattle.explore.specs.declared.Explored.{Explored}
-use Rattle.explore.specs.declared.Explored.the-variants.{Tables, TooMany}
+use Rattle.passing.specs.Map.{configs, mapEnd}
+use Rattle.passing.specs.Packed.{pack}
+use Rattle.meeting.specs.declared.Explored.{Explored}
+use Rattle.meeting.specs.declared.Explored.the-variants.{Tables, TooMany}
 use Rattle.format.specs.Decoding.{decoded}
-use Rattle.format.specs.declared.Counts.{Counts}
+use Rattle.file_parts.specs.declared.Counts.{Counts}
 use Rattle.sets.specs.Rows.{related}
 use Rattle.table.specs.FileSteps.{Findable, Steppable}
 use Rattle.stepping.specs.Stepping.{FromList, Held, Starts}

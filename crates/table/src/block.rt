@@ -1,8 +1,8 @@
 // The block of an automaton, from the bytes of its file: its configurations, its plain arcs where they fit, and its rows,
 // closed, so that row i has what empty moves lead to from configuration i.
 ghost use Prim.Native.Nat.{_≤_};
-ghost use Rattle.explore.specs.Arcs.{Indexed, Linked, Walkable};
-ghost use Rattle.explore.specs.Map.{offsets, mapEnd, blockEnd, KeptBut, Placed};
+ghost use Rattle.passing.specs.Arcs.{Indexed, Linked, Walkable};
+ghost use Rattle.passing.specs.Map.{offsets, mapEnd, blockEnd, KeptBut, Placed};
 ghost use Rattle.format.specs.Decoding.{decoded};
 ghost use Rattle.table.specs.Words.{Builds};
 use explore::Explored;

@@ -4,7 +4,7 @@ ghost use mathlib.Core.Bool.{_&&_};
 ghost use Prim.Native.Nat.{ℕ, _+_, _≤_, _<_};
 ghost use lib.Dec.{ltb};
 ghost use lib.ListN.{length};
-ghost use Rattle.explore.specs.Map.{configs};
+ghost use Rattle.passing.specs.Map.{configs};
 ghost use Rattle.sets.specs.Sets.{inSet};
 ghost use Rattle.table.specs.Finals.{stateIn, flagPlace, isFinalIn};
 use explore::map::CONFIGS;

@@ -5,7 +5,7 @@ ghost use Prim.Native.Nat.{ℕ, _+_, _≤_, _<_};
 ghost use lib.ListN.{length};
 ghost use Rattle.automata.specs.Live.{PlainArc, byLetter};
 ghost use Rattle.automata.specs.Unfolding.{plainArcs};
-ghost use Rattle.explore.specs.Map.{blockEnd};
+ghost use Rattle.passing.specs.Map.{blockEnd};
 ghost use Rattle.format.specs.Decoding.{decoded};
 ghost use Rattle.letter_chains.specs.Lettered.{sources, letteredEnd, Lettered};
 ghost use Rattle.memory.specs.Frame.{Kept};

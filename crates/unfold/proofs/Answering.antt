@@ -7,13 +7,14 @@ use borrow.Author.Tests.{le-ltb, lt-ltb}
 use lib.ListN.{length}
 use Rattle.automata.specs.Automaton.{Automaton}
 use Rattle.automata.specs.Unfolding.{configurations, plainArcs, unfolded}
-use Rattle.explore.specs.declared.Explored.the-variants.{TooMany}
+use Rattle.meeting.specs.declared.Explored.the-variants.{TooMany}
 use Rattle.explore.specs.Explores.{exploredOf}
-use Rattle.format.specs.declared.Counts.{Counts}
-use Rattle.format.specs.declared.Reading.the-variants.{Refused as Fault, Valid}
+use Rattle.file_parts.specs.declared.Counts.{Counts}
+use Rattle.file_parts.specs.declared.Reading.the-variants.{Refused as Fault, Valid}
 use Rattle.format.specs.Decoding.{automatonOf}
 use Rattle.format.specs.Encoding.{bytesOf}
-use Rattle.format.specs.Reading.{numberOf, readingOf}
+use Rattle.file_parts.specs.Parts.{numberOf}
+use Rattle.format.specs.Reading.{readingOf}
 use Rattle.format.specs.Refusals.{faultOf}
 use Rattle.file_laws.proofs.Refusals.{has-fault}
 use Rattle.table.proofs.Building.{explored-many}

@@ -13,15 +13,16 @@ use lib.ListN.{drop, getElem?, length, length-map}
 use Rattle.automata.specs.Automaton.{Automaton, Configuration, WellFormed, letters, states}
 use Rattle.automata.specs.Lists.{Each}
 use Rattle.automata.specs.Unfolding.{asArc, configurations, finalSet, plainArcs, unfolded}
-use Rattle.explore.specs.declared.Explored.the-variants.{Tables, TooMany}
+use Rattle.meeting.specs.declared.Explored.the-variants.{Tables, TooMany}
 use Rattle.explore.specs.Explores.{Explores, exploredOf}
-use Rattle.explore.proofs.Meaning.{Good}
+use Rattle.passing.proofs.Meaning.{Good}
 use Rattle.explore.proofs.Walked.{configurations-packed}
-use Rattle.format.specs.declared.Counts.{Counts}
-use Rattle.format.specs.declared.Reading.the-variants.{Valid}
+use Rattle.file_parts.specs.declared.Counts.{Counts}
+use Rattle.file_parts.specs.declared.Reading.the-variants.{Valid}
 use Rattle.format.specs.Decoding.{automatonOf, decoded, isFinal}
 use Rattle.format.specs.Encoding.{arcsBytes, bytesOf, flagByte, headerBytes}
-use Rattle.format.specs.Reading.{firstArc, flagBytes, readingOf}
+use Rattle.file_parts.specs.Parts.{firstArc, flagBytes}
+use Rattle.format.specs.Reading.{readingOf}
 use Rattle.file_laws.proofs.ValidLaws.{file-seen, valid-arcs, valid-decoded, valid-lies, valid-ranges, valid-sizes, valid-wellFormed}
 use Rattle.sets.specs.Sets.{inSet, view}
 use Rattle.sets.proofs.Laws.{length-view}

@@ -8,7 +8,7 @@ use Rattle.automata.specs.Lists.{countFrom}
 use Rattle.automata.proofs.ListLaws.{map-map}
 use Rattle.format.specs.Encoding.{flagByte}
 use Rattle.sets.specs.Sets.{inSet, view}
-use Rattle.writing.proofs.ArcBytes.{count-length}
+use Rattle.arc_writing.proofs.ArcBytes.{count-length}
 use Rattle.unfold.proofs.Counted.{table-counted}
 
 abbrev pub flagIn : List ℕ → ℕ → ℕ

@@ -2,7 +2,7 @@
 use mathlib.Core.Path.{_≡_}
 use mathlib.Core.List.{List, [], _++_}
 use Prim.Native.Nat.{_+_, _-_, _<_, _≤_, ℕ}
-use Rattle.explore.specs.Map.{arcsAt}
+use Rattle.passing.specs.Map.{arcsAt}
 use Rattle.format.specs.Encoding.{arcBytes, arcsBytes}
 use Rattle.memory.specs.Fields.{field}
 use Rattle.writing.proofs.FileParts.{arcs-append}

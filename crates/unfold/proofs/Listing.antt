@@ -17,8 +17,8 @@ use Rattle.automata.specs.Performing.{Move, successors}
 use Rattle.automata.specs.Unfolding.{asArc, configurations, plainAll, plainArcs, plainFrom, readZero}
 use Rattle.automata.proofs.ListLaws.{each-split, map-append, map-map, mem-each}
 use Rattle.explore.specs.Explores.{Block, startOf}
-use Rattle.explore.specs.Map.{arcsAt}
-use Rattle.explore.specs.Tables.{fieldsOf, listed}
+use Rattle.passing.specs.Map.{arcsAt}
+use Rattle.meeting.specs.Tables.{fieldsOf, listed}
 use Rattle.format.specs.Decoding.{letterOf}
 use Rattle.format.specs.Encoding.{letterByte}
 use Rattle.memory.specs.Fields.{field}

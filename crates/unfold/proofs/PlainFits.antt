@@ -16,7 +16,7 @@ use Rattle.automata.proofs.PerformingLaws.{successors-iff}
 use Rattle.automata.proofs.UnfoldingLaws.{first-configuration, within}
 use Rattle.format.specs.Encoding.{sizes}
 use Rattle.format.specs.Limits.{Fits, Ranges}
-use Rattle.format.specs.declared.Counts.{Counts}
+use Rattle.file_parts.specs.declared.Counts.{Counts}
 use Rattle.file_laws.proofs.Fitting.{ArcFits, fits-by}
 use Rattle.unfold.specs.Listed.{plainCounts}
 

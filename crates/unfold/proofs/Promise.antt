@@ -10,11 +10,12 @@ use lib.Seq.{drop-at, take-at}
 use Rattle.automata.specs.Automaton.{Automaton}
 use Rattle.automata.specs.Unfolding.{configurations, plainArcs, unfolded}
 use Rattle.automata.proofs.Laws.{reaching-more, unfolding-language}
-use Rattle.format.specs.declared.Counts.{Counts}
-use Rattle.format.specs.declared.Reading.the-variants.{Valid}
+use Rattle.file_parts.specs.declared.Counts.{Counts}
+use Rattle.file_parts.specs.declared.Reading.the-variants.{Valid}
 use Rattle.format.specs.Decoding.{automatonOf}
 use Rattle.format.specs.Encoding.{bytesOf, sizes}
-use Rattle.format.specs.Reading.{numberOf, readingOf}
+use Rattle.file_parts.specs.Parts.{numberOf}
+use Rattle.format.specs.Reading.{readingOf}
 use Rattle.format.specs.Refusals.{FirstHolds, faultOf}
 use Rattle.file_laws.proofs.Promise.{round-trip}
 use Rattle.file_laws.proofs.Refusals.{Decide, NoneHolds, Outcome, at-least, fault-decided, first-exactly, first-some, less-decided, no-fault, none-first, reach-decided, refused-or-not}
@@ -54,6 +55,7 @@ module _ (file : List ℕ) (c : Counts) (valid : readingOf file ≡ Valid c) (fe
   unfolding unfolded
   unfolds = record {
     valid = ap numberOf (back .0);
+    automaton = back .1;
     one-register = ap (λ (y : Automaton). y .registers) (back .1);
     one-symbol = ap (λ (y : Automaton). y .symbols) (back .1);
     same-words = λ word. rw (back .1) (unfolding-language x 256 few word);
@@ -101,6 +103,7 @@ module _ (file : List ℕ) (words : ℕ) (old : List ℕ) where
 
   refused : (n b : ℕ) → 0 < n → FirstHolds cs n b → Promised file words old old (told (Refused n b))
   refused n b pos f = record {
+    size = λ z. absurd (omega arith);
     written = λ z. absurd (omega arith);
     behind = λ z. absurd (omega arith);
     untouched = λ _. refl;
@@ -110,6 +113,7 @@ module _ (file : List ℕ) (words : ℕ) (old : List ℕ) where
 
   answered : Answered file words (length old) → Promised file words old (written ++ drop (length written) old) (told (Bytes (length written)))
   answered a = record {
+    size = λ _. refl;
     written = λ _. rw (take-at written (drop (length written) old) (length written) refl) (unfolds file (v .0) (v .1) few (a .few-arcs));
     behind = λ _. drop-at written (drop (length written) old) (length written) refl;
     untouched = λ q. absurd (q refl);

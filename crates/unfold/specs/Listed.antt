@@ -6,8 +6,8 @@ use Rattle.automata.specs.Automaton.{Arc}
 use Rattle.automata.specs.Joins.{arcFrom}
 use Rattle.automata.specs.Lists.{countFrom}
 use Rattle.automata.specs.Unfolding.{readZero}
-use Rattle.explore.specs.Map.{arcsAt}
-use Rattle.format.specs.declared.Counts.{Counts}
+use Rattle.passing.specs.Map.{arcsAt}
+use Rattle.file_parts.specs.declared.Counts.{Counts}
 use Rattle.format.specs.Decoding.{letterOf}
 use Rattle.memory.specs.Fields.{field}
 use Rattle.stepping.specs.Stepping.{endAt, startAt}

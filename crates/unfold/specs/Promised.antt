@@ -1,4 +1,5 @@
--- Promised: what is promised of unfolding (demand 2, and the exact condition of each refusal), with no algorithm in sight.
+-- Promised: what is promised of unfolding (demand 2, and the exact condition of each refusal). Words and languages are those of runs; the
+-- unfolded automaton and its plain arcs (22, 25) are document 01's, over numbered configurations.
 use mathlib.Core.Path.{_≡_}
 use mathlib.Core.Logic.{_↔_, _≢_}
 use mathlib.Core.List.{List, [], _∷_}
@@ -36,8 +37,9 @@ pub record Answered (file : List ℕ) (words space : ℕ) : Type 0 where
 
 -- what is promised of the bytes written
 pub record Unfolds (file result : List ℕ) : Type 0 where
-  -- they are a valid file, whose automaton has one register, in which only the symbol 0 can stand
+  -- they are a valid file of the unfolded automaton, which has one register, in which only the symbol 0 can stand
   pub valid : faultOf result ≡ 0
+  pub automaton : automatonOf result ≡ unfolded (automatonOf file) 256
   pub one-register : automatonOf result .registers ≡ 1
   pub one-symbol : automatonOf result .symbols ≡ 1
   -- it accepts exactly the words, of every length, that the automaton handed in accepts: by runs on both sides
@@ -47,7 +49,9 @@ pub record Unfolds (file result : List ℕ) : Type 0 where
 
 -- what is promised of an answer, told in document 01's terms, and of the output, which was `old` and is `out`
 pub record Promised (file : List ℕ) (words : ℕ) (old out : List ℕ) (t : Told) : Type 0 where
-  -- where nothing is refused, the unfolded file stands at the front of the output, and the bytes behind it are as lent
+  -- where nothing is refused, the length told is that of the unfolded file, which stands at the front of the output, and the bytes behind
+  -- it are as lent
+  pub size : t .number ≡ 0 → t .length ≡ length (bytesOf (unfolded (automatonOf file) 256))
   pub written : t .number ≡ 0 → Unfolds file (take (t .length) out)
   pub behind : t .number ≡ 0 → drop (t .length) out ≡ drop (t .length) old
   -- a refusal leaves the output as it was lent

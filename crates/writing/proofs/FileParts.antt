@@ -5,11 +5,12 @@ use Prim.Native.Nat.{_+_, _-_, ℕ}
 use native.Mathlib.Omega.{arith}
 use lib.ListN.{drop, length, length-append, take}
 use Rattle.automata.specs.Automaton.{Arc, Automaton}
-use Rattle.format.specs.declared.Counts.{Counts}
-use Rattle.format.specs.declared.Reading.the-variants.{Valid}
+use Rattle.file_parts.specs.declared.Counts.{Counts}
+use Rattle.file_parts.specs.declared.Reading.the-variants.{Valid}
 use Rattle.format.specs.Decoding.{automatonOf, decoded}
 use Rattle.format.specs.Encoding.{arcBytes, arcsBytes, bytesOf, flagByte, headerBytes, sizes}
-use Rattle.format.specs.Reading.{letterBytes, readingOf}
+use Rattle.file_parts.specs.Parts.{letterBytes}
+use Rattle.format.specs.Reading.{readingOf}
 use Rattle.file_laws.proofs.ValidLaws.{valid-decoded, valid-sizes}
 use Rattle.writing.specs.Placing.{Appended}
 use Rattle.writing.proofs.Placed.{appended-length}

@@ -1,6 +1,6 @@
 -- The file: a header that is refused is the answer, else what follows it is.
 use mathlib.Core.Path.{_≡_, sym, _∙_}
-use Rattle.format.specs.Reading.{countsOf, headerTests, firstFault}
+use Rattle.file_parts.specs.Parts.{countsOf, headerTests, firstFault}
 use Rattle.format.proofs.Seen.{header-ranges, after-header, stops-at-header}
 use borrow.Author.Needs.{needs}
 use Rattle.format.proofs.read.Statement.{statement}

@@ -6,14 +6,14 @@ use borrow.Author.Needs.{needs}
 use lib.ListN.{length}
 use Rattle.automata.specs.Automaton.{Automaton}
 use Rattle.automata.specs.Joins.{intersection}
-use Rattle.format.specs.declared.Counts.{Counts}
+use Rattle.file_parts.specs.declared.Counts.{Counts}
 use Rattle.format.specs.Decoding.{automatonOf}
 use Rattle.format.specs.Encoding.{sizes}
 use Rattle.file_laws.proofs.ValidLaws.{valid-ranges, valid-sizes, valid-fits}
 use Rattle.joining.specs.Joining.{manyCounts, writtenOf}
 use Rattle.joining.proofs.FinalLaws.{valid-lengths}
 use Rattle.joining.proofs.AnswerLaws.{decided-written, written-bytes}
-use Rattle.intersection.specs.Pairing.{withArcs}
+use Rattle.pairing.specs.Pairing.{withArcs}
 use Rattle.intersection.proofs.IntersectionBytes.{intersection-counts}
 use Rattle.intersection.proofs.IntersectionFits.{intersection-fits}
 use Rattle.file_laws.proofs.EncodingLaws.{bytes-length}
@@ -22,7 +22,7 @@ use Rattle.intersection.proofs.product.Statement.{statement}
 use Rattle.intersection.proofs.product.Tie as tie
 use Rattle.intersection.proofs.product.Reads as reads
 use Rattle.intersection.proofs.product.Lts as lts
-use Rattle.intersection.proofs.counting.count_arcs.Reads as count-arcs-reads
+use Rattle.pairing.proofs.count_arcs.Reads as count-arcs-reads
 use Rattle.intersection.proofs.product_counts.Reads as product-counts-reads
 use Rattle.intersection.proofs.write_product.Reads as write-product-reads
 use Rattle.joining.proofs.answer.decide.Reads as decide-reads

@@ -2,7 +2,7 @@ use mathlib.Core.Path.{ap}
 use native.Mathlib.Omega.{arith}
 use native.Mathlib.Nat.{mul-le-mul-left}
 use borrow.Author.Needs.{needs}
-use Rattle.intersection.specs.Pairing.{withArcs}
+use Rattle.pairing.specs.Pairing.{withArcs}
 use Rattle.intersection.proofs.IntersectionBytes.{intersection-counts}
 use Rattle.intersection.proofs.product_counts.Statement.{statement}
 use Rattle.intersection.proofs.product_counts.Tie as tie

@@ -5,21 +5,22 @@ use native.Mathlib.Omega.{arith}
 use borrow.Author.Needs.{needs}
 use lib.ListN.{length-append}
 use Rattle.automata.specs.Joins.{intersection}
-use Rattle.format.specs.declared.Counts.{Counts}
+use Rattle.file_parts.specs.declared.Counts.{Counts}
 use Rattle.format.specs.Decoding.{automatonOf}
 use Rattle.format.specs.Encoding.{arcsBytes}
 use Rattle.file_laws.proofs.ValidLaws.{valid-ranges, valid-sizes}
 use Rattle.writing.proofs.Placed.{written-then, appended-ends}
 use Rattle.joining.proofs.FinalLaws.{valid-lengths}
-use Rattle.intersection.specs.Pairing.{jointWith, emptyWith, besideArc}
+use Rattle.pairing.specs.Pairing.{jointWith, emptyWith}
+use Rattle.joint_arcs.specs.Writing.{besideArc}
 use Rattle.intersection.proofs.IntersectionBytes.{arc-parts, ofFirst, ofSecond}
-use Rattle.intersection.proofs.Numbering.{pair-below}
+use Rattle.joint_arcs.proofs.Numbering.{pair-below}
 use Rattle.intersection.proofs.write_product_arcs.Statement.{statement}
 use Rattle.intersection.proofs.write_product_arcs.Tie as tie
 use Rattle.intersection.proofs.write_product_arcs.Reads as reads
 use Rattle.intersection.proofs.write_product_arcs.Lts as lts
-use Rattle.intersection.proofs.beside.write_empty_moves.Reads as write-empty-moves-reads
-use Rattle.intersection.proofs.joint.write_joint_arcs.Reads as write-joint-arcs-reads
+use Rattle.joint_arcs.proofs.beside.write_empty_moves.Reads as write-empty-moves-reads
+use Rattle.joint_arcs.proofs.joint.write_joint_arcs.Reads as write-joint-arcs-reads
 
 -- the parts, and room for them
 abbrev parts : (s : tie.Start) → let x = automatonOf (s .args .first .now) in let y = automatonOf (s .args .second .now) in let m = s .args .a .states in let n = s .args .b .states in let k = s .args .a .registers - 1 in

@@ -1,16 +1,16 @@
 use mathlib.Core.Path.{_∙_, ap, sym, refl}
 use Prim.Native.Nat.{ℕ}
 use borrow.Author.Needs.{needs}
-use Rattle.format.specs.Reading.{numberOf}
+use Rattle.file_parts.specs.Parts.{numberOf}
 use Rattle.writing.specs.declared.Written.the-variants.{Refused}
 use Rattle.join.proofs.close.Statement.{statement}
 use Rattle.joining.proofs.FileLaws.{closed-fault, closed-valid}
 use Rattle.join.proofs.close.Tie as tie
 use Rattle.join.proofs.close.Reads as reads
 use Rattle.join.proofs.close.Lts as lts
-use Rattle.format.proofs.Reading.number.Reads as number-reads
+use Rattle.file_parts.proofs.Reading.number.Reads as number-reads
 use Rattle.format.proofs.read.Reads as read-reads
-use Rattle.join.proofs.closures.repeat.Reads as repeat-reads
+use Rattle.closures.proofs.repeat.Reads as repeat-reads
 
 -- src/lib.rt:46:9
 read-requires : tie.Need-read-requires

@@ -7,7 +7,7 @@ use Rattle.join.proofs.concatenate.Tie as tie
 use Rattle.join.proofs.concatenate.Reads as reads
 use Rattle.join.proofs.concatenate.Lts as lts
 use Rattle.joining.proofs.files.read_files.Reads as read-files-reads
-use Rattle.join.proofs.concatenations.append.Reads as append-reads
+use Rattle.concatenations.proofs.append.Reads as append-reads
 
 -- src/lib.rt:44:9
 read-files-requires : tie.Need-read-files-requires

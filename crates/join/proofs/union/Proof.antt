@@ -7,7 +7,7 @@ use Rattle.join.proofs.union.Tie as tie
 use Rattle.join.proofs.union.Reads as reads
 use Rattle.join.proofs.union.Lts as lts
 use Rattle.joining.proofs.files.read_files.Reads as read-files-reads
-use Rattle.join.proofs.unions.unite.Reads as unite-reads
+use Rattle.unions.proofs.unite.Reads as unite-reads
 
 -- src/lib.rt:29:9
 read-files-requires : tie.Need-read-files-requires

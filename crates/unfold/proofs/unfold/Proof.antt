@@ -4,11 +4,12 @@ use Prim.Native.Nat.{ℕ}
 use native.Mathlib.Omega.{arith}
 use borrow.Author.Needs.{needs}
 use lib.ListN.{length}
-use Rattle.explore.specs.declared.Explored.{Explored}
+use Rattle.meeting.specs.declared.Explored.{Explored}
 use Rattle.explore.specs.Explores.{Explores}
-use Rattle.format.specs.declared.Reading.the-variants.{Valid}
+use Rattle.file_parts.specs.declared.Reading.the-variants.{Valid}
 use Rattle.format.specs.Decoding.{automatonOf}
-use Rattle.format.specs.Reading.{numberOf, readingOf}
+use Rattle.file_parts.specs.Parts.{numberOf}
+use Rattle.format.specs.Reading.{readingOf}
 use Rattle.file_laws.proofs.ValidLaws.{valid-arcs}
 use Rattle.table.proofs.Accepting.{valid-walkable}
 use Rattle.writing.specs.declared.Written.the-variants.{Refused}

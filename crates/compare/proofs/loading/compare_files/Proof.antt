@@ -3,7 +3,7 @@ use borrow.Author.Needs.{needs}
 use mathlib.Core.Path.{_∙_, _≡_, sym}
 use native.Mathlib.Omega.{arith}
 use Rattle.explore.specs.Explores.{exploredOf}
-use Rattle.explore.specs.declared.Explored.the-variants.{Tables}
+use Rattle.meeting.specs.declared.Explored.the-variants.{Tables}
 use Rattle.format.specs.Decoding.{automatonOf}
 use Rattle.pairs.specs.Map.{firstBlock}
 use Rattle.table.specs.Words.{Ready}

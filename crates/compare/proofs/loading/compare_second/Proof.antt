@@ -6,9 +6,9 @@ use Prim.Native.Nat.{_+_, _-_, _≤_}
 use native.Mathlib.Omega.{arith}
 use lib.ListN.{drop, length, take}
 use Rattle.explore.specs.Explores.{exploredOf}
-use Rattle.explore.specs.declared.Explored.the-variants.{Tables}
+use Rattle.meeting.specs.declared.Explored.the-variants.{Tables}
 use Rattle.format.specs.Decoding.{automatonOf}
-use Rattle.format.proofs.Steps.{letters-length}
+use Rattle.file_parts.proofs.Steps.{letters-length}
 use Rattle.file_laws.proofs.ValidLaws.{valid-letters, valid-wellFormed}
 use Rattle.pairs.specs.Map.{firstBlock, secondBlock}
 use Rattle.table.specs.Words.{Ready}

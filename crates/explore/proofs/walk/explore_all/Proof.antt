@@ -5,16 +5,16 @@ use mathlib.Core.Path.{_≡_, refl, subst}
 use mathlib.Core.List.{List}
 use Prim.Native.Nat.{ℕ, _+_, _-_}
 use lib.ListN.{drop, getD}
-use Rattle.explore.specs.Arcs.{Indexed, Linked}
-use Rattle.explore.specs.Map.{KeptBut, Placed, blockEnd, configs, mapEnd, offsets}
-use Rattle.explore.specs.Packed.{hopsIn}
-use Rattle.explore.specs.Tables.{MetAll, Safe}
-use Rattle.explore.specs.declared.Explored.{Explored}
-use Rattle.explore.specs.declared.Explored.the-variants.{Tables, TooMany}
-use Rattle.format.specs.Reading.{firstArc}
-use Rattle.explore.proofs.Finding.{placed-kept}
-use Rattle.explore.proofs.Frames.{but-then, but-wider}
-use Rattle.explore.proofs.Linking.{indexed-kept, linked-kept}
+use Rattle.passing.specs.Arcs.{Indexed, Linked}
+use Rattle.passing.specs.Map.{KeptBut, Placed, blockEnd, configs, mapEnd, offsets}
+use Rattle.passing.specs.Packed.{hopsIn}
+use Rattle.meeting.specs.Tables.{MetAll, Safe}
+use Rattle.meeting.specs.declared.Explored.{Explored}
+use Rattle.meeting.specs.declared.Explored.the-variants.{Tables, TooMany}
+use Rattle.file_parts.specs.Parts.{firstArc}
+use Rattle.meeting.proofs.Finding.{placed-kept}
+use Rattle.meeting.proofs.Frames.{but-then, but-wider}
+use Rattle.passing.proofs.Linking.{indexed-kept, linked-kept}
 use Rattle.explore.proofs.Promise.{explores-all, explores-many}
 use Rattle.explore.proofs.Walking.{Noted, Walking, configured-noted, kept-noted, kept-walked, placed-noted, walking-more, walking-over, walking-start}
 use Rattle.explore.proofs.walk.explore_all.Statement.{statement}

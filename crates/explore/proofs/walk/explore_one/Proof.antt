@@ -6,15 +6,15 @@ use mathlib.Core.Path.{_≡_, _∙_, subst}
 use Prim.Native.Nat.{_+_, _-_, _*_, _%_, _^_, _<_}
 use lib.Bits.{and-mask}
 use lib.ListN.{getD}
-use Rattle.explore.specs.Map.{configs}
-use Rattle.explore.specs.Tables.{Met, Safe}
-use Rattle.explore.specs.declared.Explored.{Explored}
-use Rattle.explore.specs.declared.Explored.the-variants.{Tables, TooMany}
+use Rattle.passing.specs.Map.{configs}
+use Rattle.meeting.specs.Tables.{Met, Safe}
+use Rattle.meeting.specs.declared.Explored.{Explored}
+use Rattle.meeting.specs.declared.Explored.the-variants.{Tables, TooMany}
 use Rattle.format.specs.Decoding.{letterOf}
-use Rattle.explore.proofs.Finding.{placed-kept}
-use Rattle.explore.proofs.Frames.{but-then}
+use Rattle.meeting.proofs.Finding.{placed-kept}
+use Rattle.meeting.proofs.Frames.{but-then}
 use Rattle.explore.proofs.Going.{Going, Turn, arc-here, going-end, going-failed, going-less, going-met, going-over, going-start}
-use Rattle.explore.proofs.Performing.{Performing, next-ok, performing-end, performing-failed, performing-more, performing-start}
+use Rattle.passing.proofs.Performing.{Performing, next-ok, performing-end, performing-failed, performing-more, performing-start}
 use Rattle.explore.proofs.walk.explore_one.Statement.{statement}
 use Rattle.explore.proofs.walk.explore_one.Tie as tie
 

@@ -5,10 +5,10 @@ use mathlib.Core.Path.{_∙_, refl}
 use mathlib.Core.List.{[]}
 use Rattle.automata.specs.Exploration.{add, has, number}
 use Rattle.automata.specs.Lists.{any}
-use Rattle.explore.proofs.Finding.{placed-kept}
-use Rattle.explore.proofs.Frames.{but-low, but-then, but-wider}
-use Rattle.explore.proofs.Linking.{indexed-kept, linked-kept}
-use Rattle.explore.proofs.Tabling.{configured-none, tabled-none}
+use Rattle.meeting.proofs.Finding.{placed-kept}
+use Rattle.meeting.proofs.Frames.{but-low, but-then, but-wider}
+use Rattle.passing.proofs.Linking.{indexed-kept, linked-kept}
+use Rattle.meeting.proofs.Tabling.{configured-none, tabled-none}
 use Rattle.explore.proofs.walk.prepare.Statement.{statement}
 use Rattle.explore.proofs.walk.prepare.Tie as tie
 

@@ -7,8 +7,8 @@ use native.Mathlib.Numerals.{add-one}
 use borrow.Author.Tests.{le-leb, lt-leb}
 use lib.Dec.{leb}
 use lib.ListN.{length, getD, drop}
-use Rattle.format.specs.Reading.{flags}
-use Rattle.format.proofs.Steps.{flags-at, flags-end}
+use Rattle.file_parts.specs.Parts.{flags}
+use Rattle.file_parts.proofs.Steps.{flags-at, flags-end}
 use Rattle.format.proofs.body.are_flags.Statement.{statement}
 use Rattle.format.proofs.body.are_flags.Tie as tie
 

@@ -6,8 +6,8 @@ use Prim.Native.Nat.{suc, _+_, _-_, _≤_}
 use borrow.Author.Tests.{lt-ltb, le-ltb}
 use lib.Dec.{ltb}
 use lib.ListN.{length, getD, drop}
-use Rattle.format.specs.Reading.{ascending}
-use Rattle.format.proofs.Steps.{ascending-at, ascending-end}
+use Rattle.file_parts.specs.Parts.{ascending}
+use Rattle.file_parts.proofs.Steps.{ascending-at, ascending-end}
 use Rattle.format.proofs.body.is_ascending.Statement.{statement}
 use Rattle.format.proofs.body.is_ascending.Tie as tie
 

@@ -4,8 +4,8 @@ use Prim.Native.Nat.{_+_, _-_}
 use native.Mathlib.Omega.{arith}
 use borrow.Author.Tests.{le-leb, lt-leb}
 use lib.ListN.{take, drop}
-use Rattle.format.specs.Reading.{letterBytes, flagBytes, ascending, flags, firstFault}
-use Rattle.format.proofs.Tests.{passed, failed}
+use Rattle.file_parts.specs.Parts.{letterBytes, flagBytes, ascending, flags, firstFault}
+use Rattle.file_parts.proofs.Tests.{passed, failed}
 use borrow.Author.Needs.{needs}
 use Rattle.format.proofs.body.read_body.Statement.{statement}
 use Rattle.format.proofs.body.read_body.Tie as tie

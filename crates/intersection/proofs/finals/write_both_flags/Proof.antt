@@ -6,7 +6,7 @@ use Prim.Native.Nat.{ℕ, _+_, _-_, _<_, _≤_}
 use native.Mathlib.Omega.{arith}
 use lib.ListN.{length, length-replicate, replicate}
 use Rattle.automata.specs.Joins.{bothFinal}
-use Rattle.format.specs.Reading.{flagBytes}
+use Rattle.file_parts.specs.Parts.{flagBytes}
 use Rattle.format.specs.Decoding.{automatonOf}
 use Rattle.format.specs.Encoding.{flagByte}
 use Rattle.file_laws.proofs.ValidLaws.{valid-ranges, file-seen}
@@ -17,7 +17,7 @@ use Rattle.intersection.proofs.finals.write_both_flags.Statement.{state
 use Rattle.intersection.proofs.finals.write_both_flags.Tie as tie
 use Rattle.intersection.proofs.finals.write_both_flags.Reads as reads
 use Rattle.intersection.proofs.finals.write_both_flags.Lts as lts
-use Rattle.format.proofs.fields.byte.Reads as byte-reads
+use Rattle.file_parts.proofs.fields.byte.Reads as byte-reads
 use Rattle.joining.proofs.flags.write_flags.Reads as write-flags-reads
 use Rattle.writing.proofs.parts.write_zeros.Reads as write-zeros-reads
 

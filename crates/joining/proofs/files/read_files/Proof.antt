@@ -4,8 +4,9 @@ use Prim.Native.Nat.{ℕ}
 use native.Mathlib.Omega.{arith}
 use borrow.Author.Needs.{needs}
 use borrow.Author.Tests.{not-false, not-true}
-use Rattle.format.specs.declared.Reading.the-variants.{Valid}
-use Rattle.format.specs.Reading.{numberOf, readingOf}
+use Rattle.file_parts.specs.declared.Reading.the-variants.{Valid}
+use Rattle.file_parts.specs.Parts.{numberOf}
+use Rattle.format.specs.Reading.{readingOf}
 use Rattle.file_laws.proofs.ValidLaws.{valid-letters}
 use Rattle.joining.specs.declared.files.Files.the-variants.{Both, Fault}
 use Rattle.joining.specs.Joining.{filesOf}
@@ -14,7 +15,7 @@ use Rattle.joining.proofs.FileLaws.{first-fault, second-fault, valid-fi
 use Rattle.joining.proofs.files.read_files.Tie as tie
 use Rattle.joining.proofs.files.read_files.Reads as reads
 use Rattle.joining.proofs.files.read_files.Lts as lts
-use Rattle.format.proofs.Reading.number.Reads as number-reads
+use Rattle.file_parts.proofs.Reading.number.Reads as number-reads
 use Rattle.format.proofs.read.Reads as read-reads
 use Rattle.joining.proofs.files.same_bytes.Reads as same-bytes-reads
 use Rattle.writing.proofs.FileParts.{lent-letters}

@@ -4,7 +4,7 @@ use Rattle.joining.proofs.groups.write_entry.Statement.{statement}
 use Rattle.joining.proofs.groups.write_entry.Tie as tie
 use Rattle.joining.proofs.groups.write_entry.Reads as reads
 use Rattle.joining.proofs.groups.write_entry.Lts as lts
-use Rattle.writing.proofs.arcs.write_plain_arc.Reads as write-plain-arc-reads
+use Rattle.arc_writing.proofs.write_plain_arc.Reads as write-plain-arc-reads
 
 -- src/groups.rt:29:5
 write-plain-arc-requires : tie.Need-write-plain-arc-requires

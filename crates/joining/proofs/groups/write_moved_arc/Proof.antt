@@ -4,14 +4,14 @@ use borrow.Author.Needs.{needs}
 use lib.ListN.{length-drop, length-take}
 use lib.Seq.{getD-drop}
 use Rattle.automata.proofs.SearchLaws.{at}
-use Rattle.format.proofs.Steps.{tail}
+use Rattle.file_parts.proofs.Steps.{tail}
 use Rattle.joining.proofs.groups.write_moved_arc.Statement.{statement}
 use Rattle.joining.proofs.Walking.{arc-at}
 use Rattle.joining.proofs.groups.write_moved_arc.Tie as tie
 use Rattle.joining.proofs.groups.write_moved_arc.Reads as reads
 use Rattle.joining.proofs.groups.write_moved_arc.Lts as lts
-use Rattle.format.proofs.fields.byte.Reads as byte-reads
-use Rattle.writing.proofs.arcs.write_arc.Reads as write-arc-reads
+use Rattle.file_parts.proofs.fields.byte.Reads as byte-reads
+use Rattle.arc_writing.proofs.write_arc.Reads as write-arc-reads
 
 -- src/groups.rt:26:21
 byte-requires : tie.Need-byte-requires

@@ -6,7 +6,7 @@ use lib.ListN.{drop}
 use Rattle.automata.specs.Joins.{movedArc}
 use Rattle.format.specs.Encoding.{arcsBytes, arcBytes}
 use Rattle.format.specs.Decoding.{arcsOf, arcOf}
-use Rattle.format.specs.Reading.{arcSize, firstArc}
+use Rattle.file_parts.specs.Parts.{arcSize, firstArc}
 use Rattle.file_laws.proofs.ValidLaws.{valid-arcs, valid-ranges}
 use Rattle.writing.proofs.Placed.{Left, left-all, left-fits, left-less, left-none}
 use Rattle.joining.proofs.groups.write_moved_arcs.Statement.{statement}
@@ -14,7 +14,7 @@ use Rattle.joining.proofs.Walking.{Walk, walk-start, ArcHere, mapped-ne
 use Rattle.joining.proofs.groups.write_moved_arcs.Tie as tie
 use Rattle.joining.proofs.groups.write_moved_arcs.Reads as reads
 use Rattle.joining.proofs.groups.write_moved_arcs.Lts as lts
-use Rattle.format.proofs.fields.arc_size.Reads as arc-size-reads
+use Rattle.file_parts.proofs.fields.arc_size.Reads as arc-size-reads
 use Rattle.joining.proofs.groups.write_moved_arc.Reads as write-moved-arc-reads
 
 abbrev Inv-loop : tie.InvT-loop

@@ -3,8 +3,8 @@ use mathlib.Core.Logic.{inl, inr, ⊎-elim}
 use Prim.Native.Nat.{_-_, _≤_}
 use native.Mathlib.Omega.{arith}
 use lib.ListN.{length}
-use Rattle.explore.specs.Map.{blockEnd}
-use Rattle.explore.proofs.Frames.{but-same}
+use Rattle.passing.specs.Map.{blockEnd}
+use Rattle.meeting.proofs.Frames.{but-same}
 use Rattle.stepping.specs.Stepping.{startAt}
 use Rattle.stepping.proofs.BlockFrame.{end-below}
 use Rattle.stepping.proofs.Pruned.{Pruning, from-was, pruned-told, pruned-starts, pruning-kept, pruning-more, pruning-start, to-was}

@@ -4,11 +4,11 @@ use mathlib.Core.Path.{_≡_, refl, subst}
 use mathlib.Core.Logic.{inl}
 use native.Mathlib.Omega.{arith}
 use Rattle.explore.specs.Explores.{Explores}
-use Rattle.explore.specs.declared.Explored.{Explored}
-use Rattle.explore.specs.declared.Explored.the-variants.{Tables, TooMany}
-use Rattle.explore.proofs.Finding.{placed-kept}
-use Rattle.explore.proofs.Frames.{but-high, but-then}
-use Rattle.explore.proofs.Linking.{indexed-kept, linked-kept}
+use Rattle.meeting.specs.declared.Explored.{Explored}
+use Rattle.meeting.specs.declared.Explored.the-variants.{Tables, TooMany}
+use Rattle.meeting.proofs.Finding.{placed-kept}
+use Rattle.meeting.proofs.Frames.{but-high, but-then}
+use Rattle.passing.proofs.Linking.{indexed-kept, linked-kept}
 use Rattle.format.specs.Decoding.{decoded}
 use Rattle.table.proofs.Accepting.{builds-tables}
 use Rattle.table.proofs.block.build.Statement.{statement}

@@ -2,7 +2,7 @@
 -- proofs/Onward.antt). The measure is how far c is from 256.
 use Prim.Native.Nat.{_-_}
 use native.Mathlib.Omega.{arith}
-use Rattle.explore.proofs.Linking.{indexed-kept, linked-kept}
+use Rattle.passing.proofs.Linking.{indexed-kept, linked-kept}
 use Rattle.table.specs.FileSteps.{FromFile}
 use Rattle.stepping.proofs.BlockFrame.{room-kept}
 use Rattle.table.proofs.FileVisits.{findable-kept, from-kept, map-kept}

@@ -5,8 +5,8 @@ use mathlib.Core.Path.{_≡_, _∙_, ap, subst, sym}
 use Prim.Native.Nat.{ℕ, _*_, _%_, _+_, _^_, _<_}
 use native.Mathlib.Omega.{arith}
 use lib.Pow.{shl-exact}
-use Rattle.explore.specs.Packed.{Fitting}
-use Rattle.explore.specs.declared.Outcome.the-variants.{Failed, Leaves}
+use Rattle.passing.specs.Packed.{Fitting}
+use Rattle.passing.specs.declared.Outcome.the-variants.{Failed, Leaves}
 use Rattle.memory.proofs.Laws.{kept-same, kept-wider}
 use Rattle.table.proofs.FileVisits.{leads-none, leads-one, not-taken, taken}
 use Rattle.table.proofs.file_steps.take_arc.Statement.{statement}

@@ -6,7 +6,7 @@ use mathlib.Core.Logic.{inr}
 use mathlib.Core.Bool.{cond}
 use Prim.Native.Nat.{_+_}
 use native.Mathlib.Omega.{arith}
-use Rattle.explore.specs.Map.{configs}
+use Rattle.passing.specs.Map.{configs}
 use Rattle.format.specs.Decoding.{decoded}
 use Rattle.letter_chains.specs.Lettered.{letteredEnd}
 use Rattle.memory.specs.Frame.{Kept}

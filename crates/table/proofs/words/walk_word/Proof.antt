@@ -6,10 +6,10 @@ use Prim.Native.Nat.{_-_}
 use native.Mathlib.Omega.{arith}
 use lib.ListN.{getD, length}
 use Rattle.format.specs.Decoding.{decoded}
-use Rattle.format.specs.Letters.{letterNumber}
-use Rattle.format.specs.Reading.{letterBytes}
-use Rattle.format.specs.declared.letters.Letter.the-variants.{At}
-use Rattle.format.proofs.Steps.{letters-length}
+use Rattle.file_parts.specs.Letters.{letterNumber}
+use Rattle.file_parts.specs.Parts.{letterBytes}
+use Rattle.file_parts.specs.declared.letters.Letter.the-variants.{At}
+use Rattle.file_parts.proofs.Steps.{letters-length}
 use Rattle.letter_chains.proofs.LetteredFrame.{lettered-kept}
 use Rattle.table.proofs.FileCovers.{built-outgoing}
 use Rattle.table.proofs.FileVisits.{map-kept, steppable-kept}

@@ -2,10 +2,10 @@
 use mathlib.Core.List.{_++_}
 use Prim.Native.Nat.{_+_, _-_}
 use native.Mathlib.Omega.{arith}
-use Rattle.explore.specs.Map.{arcsAt}
+use Rattle.passing.specs.Map.{arcsAt}
 use Rattle.format.specs.Encoding.{arcBytes, arcsBytes}
 use Rattle.memory.specs.Fields.{field}
-use Rattle.writing.proofs.ArcBytes.{arc-length}
+use Rattle.arc_writing.proofs.ArcBytes.{arc-length}
 use Rattle.writing.proofs.Placed.{Left, left-all, left-fits, left-less, left-none}
 use Rattle.unfold.specs.Listed.{arcListed, arcsListed}
 use Rattle.unfold.proofs.ListedBytes.{listed-next, listed-none}

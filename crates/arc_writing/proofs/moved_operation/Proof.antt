@@ -1,0 +1,54 @@
+use mathlib.Core.Path.{sym, _∙_}
+use native.Mathlib.Omega.{arith}
+use Rattle.arc_writing.proofs.ArcBytes.{read-moved, write-moved}
+use borrow.Author.Needs.{needs}
+use Rattle.arc_writing.proofs.moved_operation.Statement.{statement}
+use Rattle.arc_writing.proofs.moved_operation.Tie as tie
+use Rattle.arc_writing.proofs.moved_operation.Reads as reads
+use Rattle.arc_writing.proofs.moved_operation.Lts as lts
+use Rattle.file_parts.proofs.fields.operation_kind.Reads as operation-kind-reads
+use Rattle.file_parts.proofs.fields.operation_register.Reads as operation-register-reads
+use Rattle.arc_writing.proofs.moved_register.Reads as moved-register-reads
+
+-- src/lib.rt:50:35
+operation-register-requires : tie.Need-operation-register-requires
+operation-register-requires c κs = search needs
+
+-- src/lib.rt:50:9
+moved-register-requires : tie.Need-moved-register-requires
+moved-register-requires c κs = (rw (c .operation-register .ensures) (omega arith), c .before .pre)
+
+-- src/lib.rt:51:8
+operation-kind-requires : tie.Need-operation-kind-requires
+operation-kind-requires c κs = search needs
+
+-- src/lib.rt:54:9
+add-result : tie.Need-add-result
+add-result c = search needs
+
+-- src/lib.rt:46:1
+returns : tie.Need-returns
+returns c =
+    let m = c .before .before .moved-register in
+    let o = c .before .before .before .operation-register in
+    let a = c .before .before .before .before .args in
+    (λ y. read-moved (a .k) (a .x) y (sym (c .before .operation-kind .ensures) ∙ c .if1 .taken) ∙ rw (m .ensures .0, o .ensures), omega (arith, m .ensures .1))
+
+-- src/lib.rt:46:1
+returns-2 : tie.Need-returns-2
+returns-2 c =
+    let m = c .before .before .moved-register in
+    let o = c .before .before .before .operation-register in
+    let a = c .before .before .before .before .args in
+    (λ y. write-moved (a .k) (a .x) y (λ e. c .if1 .left (c .before .operation-kind .ensures ∙ e)) ∙ rw (m .ensures .0, o .ensures), omega (arith, m .ensures .1))
+
+pub moved-operation-spec : {M : Type 1} → statement M
+moved-operation-spec =
+    tie.close
+    (tie.spec
+    operation-register-requires
+    moved-register-requires
+    operation-kind-requires
+    add-result
+    returns
+    returns-2)

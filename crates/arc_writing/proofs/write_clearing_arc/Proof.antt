@@ -1,0 +1,114 @@
+use mathlib.Core.Path.{_≡_, refl, ap, _∙_}
+use Prim.Native.Nat.{_+_, _-_, _*_}
+use native.Mathlib.Omega.{arith}
+use lib.ListN.{length, length-take, length-drop}
+use Rattle.format.specs.Encoding.{opsBytes}
+use Rattle.writing.proofs.Placed.{appended-length, then-tail}
+use Rattle.arc_writing.proofs.ArcBytes.{cleared, cleared-count, cleared-length, clearing-few, clearing-more, arc-written}
+use borrow.Author.Needs.{needs}
+use Rattle.arc_writing.proofs.write_clearing_arc.Statement.{statement}
+use Rattle.arc_writing.proofs.write_clearing_arc.Tie as tie
+use Rattle.arc_writing.proofs.write_clearing_arc.Reads as reads
+use Rattle.arc_writing.proofs.write_clearing_arc.Lts as lts
+use Rattle.arc_writing.proofs.write_clearing.Reads as write-clearing-reads
+use Rattle.arc_writing.proofs.write_fields.Reads as write-fields-reads
+use Rattle.arc_writing.proofs.write_plain_arc.Reads as write-plain-arc-reads
+
+-- src/lib.rt:133:9
+write-plain-arc-requires : tie.Need-write-plain-arc-requires
+write-plain-arc-requires c κs =
+    let s = c .before .before .before in
+    let e = ap length (clearing-few (s .args .n) (omega arith)) in
+    (s .pre .0, omega (arith, s .pre .2))
+
+-- src/lib.rt:133:9
+same-length : tie.Need-same-length
+same-length c = search needs
+
+-- src/lib.rt:133:9
+returns : tie.Need-returns
+returns c = rw (clearing-few (c .before .before .before .before .before .before .args .n) (omega arith)) (c .before .before .write-plain-arc .ensures)
+
+-- src/lib.rt:135:13
+sub-p : tie.Need-sub-p
+sub-p c = search needs
+
+-- src/lib.rt:136:5
+write-fields-requires : tie.Need-write-fields-requires
+write-fields-requires c κs = search needs
+
+-- src/lib.rt:137:29
+add-write-clearing : tie.Need-add-write-clearing
+add-write-clearing c = search needs
+
+-- src/lib.rt:137:20
+sub-write-clearing : tie.Need-sub-write-clearing
+sub-write-clearing c = search needs
+
+-- src/lib.rt:137:20
+part-write-clearing-start : tie.Need-part-write-clearing-start
+part-write-clearing-start c = search needs
+
+-- src/lib.rt:137:20
+part-write-clearing-end : tie.Need-part-write-clearing-end
+part-write-clearing-end c = search needs
+
+-- src/lib.rt:137:5
+write-clearing-requires : tie.Need-write-clearing-requires
+write-clearing-requires c κs =
+    let s = c .before .before .before .before .before .before .before in
+    let e = ap length (clearing-more (s .args .n) (omega arith)) ∙ cleared-count 1 (s .args .n - 1) in
+    let w = c .before .before .before .write-fields .ensures in
+    (omega (arith, s .pre .1), simp (length-take, length-drop) (omega (arith, s .pre .2, appended-length w)))
+
+-- src/lib.rt:138:5
+add-result : tie.Need-add-result
+add-result c = search needs
+
+-- src/lib.rt:138:14
+mul-result : tie.Need-mul-result
+mul-result c = search needs
+
+-- src/lib.rt:138:5
+add-result-2 : tie.Need-add-result-2
+add-result-2 c = search needs
+
+-- src/lib.rt:128:1
+same-length-2 : tie.Need-same-length-2
+same-length-2 c = search needs
+
+-- src/lib.rt:128:1
+returns-2 : tie.Need-returns-2
+returns-2 c =
+    let ops = c .before .before in
+    let fields = ops .before .before .before .before in
+    let s = fields .before .before .before .before in
+    let a = s .args in
+    let p = a .n - 1 in
+    let more = clearing-more (a .n) (omega arith) in
+    let count = ap length more ∙ cleared-count 1 p in
+    let size = cleared-length p in
+    let e : a .at + 4 + 2 * p ≡ a .at + 4 + length (opsBytes (cleared 1 p)) = omega arith in
+    let four = fields .write-fields .ensures in
+    let both = then-tail (opsBytes (cleared 1 p)) (ops .write-clearing .last .0) (a .at + 4) four (omega (arith, s .pre .2)) (four .behind) (ops .write-clearing .ensures) in
+    rw (more, e) (arc-written (a .f) (cleared 1 p) (cleared-count 1 p) refl both)
+
+pub write-clearing-arc-spec : {M : Type 1} → statement M
+write-clearing-arc-spec =
+    tie.close
+    (tie.spec
+    write-plain-arc-requires
+    same-length
+    returns
+    sub-p
+    write-fields-requires
+    add-write-clearing
+    sub-write-clearing
+    part-write-clearing-start
+    part-write-clearing-end
+    write-clearing-requires
+    add-result
+    mul-result
+    add-result-2
+    same-length-2
+    returns-2)

@@ -1,0 +1,135 @@
+use mathlib.Core.Path.{_≡_}
+use mathlib.Core.List.{_∷_, map}
+use Prim.Native.Nat.{_+_, _-_, _*_, _≤_}
+use native.Mathlib.Omega.{arith}
+use lib.ListN.{getD, drop, length-set}
+use Rattle.automata.specs.Joins.{movedOp}
+use Rattle.format.specs.Decoding.{opsOf}
+use Rattle.format.specs.Encoding.{opsBytes}
+use Rattle.writing.proofs.Placed.{Left, left-all, left-at, left-byte, left-none}
+use Rattle.arc_writing.proofs.ArcBytes.{moved-ops-at, moved-ops-end, moved-ops-length}
+use Rattle.arc_writing.proofs.write_ops.Statement.{statement}
+use Rattle.arc_writing.proofs.write_ops.Tie as tie
+use Rattle.arc_writing.proofs.write_ops.Reads as reads
+use Rattle.arc_writing.proofs.write_ops.Lts as lts
+use Rattle.file_parts.proofs.fields.byte.Reads as byte-reads
+use Rattle.arc_writing.proofs.moved_operation.Reads as moved-operation-reads
+
+abbrev Inv-loop : tie.InvT-loop
+Inv-loop out₀ ops p k i₀ out i = (i ≤ p) × Left 0 (opsBytes (map (movedOp k) (opsOf p ops))) out₀ (2 * i) (opsBytes (map (movedOp k) (opsOf (p - i) (drop (2 * i) ops)))) out
+
+abbrev μ-loop : tie.MeasureT-loop
+μ-loop out₀ ops p k i₀ out i = p - i
+
+-- src/lib.rt:64:5
+loop-holds : tie.Need-loop-holds Inv-loop μ-loop
+loop-holds c =
+    let s = c .before .before in
+    let e : s .args .p - 0 ≡ s .args .p = omega arith in
+    (omega arith, rw e (left-all (omega (arith, s .pre .2, moved-ops-length (s .args .k) (s .args .p) (s .args .ops .now)))))
+
+-- src/lib.rt:65:47
+mul-byte : tie.Need-mul-byte Inv-loop μ-loop
+mul-byte c = omega arith
+
+-- src/lib.rt:65:37
+byte-requires : tie.Need-byte-requires Inv-loop μ-loop
+byte-requires c κs = omega arith
+
+-- src/lib.rt:65:13
+moved-operation-requires : tie.Need-moved-operation-requires Inv-loop μ-loop
+moved-operation-requires c κs = omega arith
+
+-- src/lib.rt:66:22
+cast-out : tie.Need-cast-out Inv-loop μ-loop
+cast-out c = omega (arith, c .moved-operation .ensures .1)
+
+-- src/lib.rt:66:13
+mul-out : tie.Need-mul-out Inv-loop μ-loop
+mul-out c = omega arith
+
+-- src/lib.rt:66:9
+slice-write-out : tie.Need-slice-write-out Inv-loop μ-loop
+slice-write-out c = omega (arith, c .before .before .before .loop .inv .1 .size)
+
+-- src/lib.rt:67:30
+mul-out-2 : tie.Need-mul-out-2 Inv-loop μ-loop
+mul-out-2 c = omega arith
+
+-- src/lib.rt:67:30
+add-out : tie.Need-add-out Inv-loop μ-loop
+add-out c = omega arith
+
+-- src/lib.rt:67:26
+shared-slice-read-out : tie.Need-shared-slice-read-out Inv-loop μ-loop
+shared-slice-read-out c = omega arith
+
+-- src/lib.rt:67:13
+mul-out-3 : tie.Need-mul-out-3 Inv-loop μ-loop
+mul-out-3 c = omega arith
+
+-- src/lib.rt:67:13
+add-out-2 : tie.Need-add-out-2 Inv-loop μ-loop
+add-out-2 c = omega arith
+
+-- src/lib.rt:67:9
+slice-write-out-2 : tie.Need-slice-write-out-2 Inv-loop μ-loop
+slice-write-out-2 c = simp length-set (omega (arith, c .before .before .before .before .loop .inv .1 .size))
+
+-- src/lib.rt:68:9
+add-i : tie.Need-add-i Inv-loop μ-loop
+add-i c = omega arith
+
+-- src/lib.rt:64:5
+loop-less : tie.Need-loop-less Inv-loop μ-loop
+loop-less c = omega arith
+
+-- src/lib.rt:64:5
+loop-again : tie.Need-loop-again Inv-loop μ-loop
+loop-again c =
+    let m = c .before .moved-operation in
+    let b = c .before .before .byte in
+    let l = c .before .before .before .before .loop in
+    let a = c .before .before .before .before .before .before .before .args in
+    let ops = a .ops .now in
+    let y = getD ops (2 * l .i + 1) 0 in
+    let rest = opsBytes (map (movedOp (a .k)) (opsOf (a .p - (l .i + 1)) (drop (2 * (l .i + 1)) ops))) in
+    let e : 2 * (l .i + 1) ≡ 2 * l .i + 1 + 1 = omega arith in
+    let now = rw (moved-ops-at (a .k) (a .p) (l .i) ops (omega arith) (m .result) (rw (← b .ensures .0) (m .ensures .0))) at (l .inv .1) in
+    (omega arith, left-at e (left-byte y rest (left-byte (m .result) (y ∷ rest) now)))
+
+-- src/lib.rt:59:1
+same-length : tie.Need-same-length Inv-loop μ-loop
+same-length c = c .before .loop .inv .1 .size
+
+-- src/lib.rt:59:1
+returns : tie.Need-returns Inv-loop μ-loop
+returns c =
+    let l = c .before .loop in
+    let a = c .before .before .before .before .args in
+    left-none (rw (moved-ops-end (a .k) (a .p) (l .i) (a .ops .now) (omega arith)) at (l .inv .1)) .output
+
+pub write-ops-spec : {M : Type 1} → statement M
+write-ops-spec =
+    tie.close
+    (tie.spec
+    Inv-loop
+    μ-loop
+    loop-holds
+    mul-byte
+    byte-requires
+    moved-operation-requires
+    cast-out
+    mul-out
+    slice-write-out
+    mul-out-2
+    add-out
+    shared-slice-read-out
+    mul-out-3
+    add-out-2
+    slice-write-out-2
+    add-i
+    loop-less
+    loop-again
+    same-length
+    returns)

@@ -1,0 +1,13 @@
+use mathlib.Core.List.{[], _∷_}
+use borrow.Author.Needs.{needs}
+use Rattle.format.specs.Encoding.{opsBytes}
+use Rattle.writing.proofs.Placed.{stored}
+use Rattle.arc_writing.proofs.write_read.Statement.{statement}
+use Rattle.arc_writing.proofs.write_read.Tie as tie
+
+returns : tie.Need-returns
+unfolding opsBytes
+returns c = stored (0 ∷ 0 ∷ []) (c .args .out .now) 0 (c .pre) .output
+
+pub write-read-spec : {M : Type 1} → statement M
+write-read-spec = tie.close (tie.spec (λ c. search needs) (λ c. search needs) (λ c. search needs) returns)

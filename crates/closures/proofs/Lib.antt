@@ -1,0 +1,2 @@
+pub mod ClosureBytes
+pub mod ClosureFits

@@ -1,0 +1,77 @@
+use mathlib.Core.Path.{_≡_, ap}
+use mathlib.Core.List.{_++_, map}
+use native.Mathlib.Omega.{arith}
+use borrow.Author.Needs.{needs}
+use lib.ListN.{length-append}
+use Rattle.automata.specs.Joins.{closure, emptyMove, finalStates, movedArc}
+use Rattle.automata.proofs.SearchLaws.{at}
+use Rattle.file_parts.specs.declared.Counts.{Counts}
+use Rattle.format.specs.Encoding.{arcBytes, arcsBytes}
+use Rattle.format.specs.Decoding.{automatonOf}
+use Rattle.file_laws.proofs.ValidLaws.{valid-ranges, valid-sizes}
+use Rattle.writing.proofs.Placed.{appended-ends, written-then}
+use Rattle.closures.proofs.write_closure_arcs.Statement.{statement}
+use Rattle.closures.proofs.ClosureBytes.{closure-arc-parts}
+use Rattle.joining.proofs.Walking.{entry-length}
+use Rattle.joining.proofs.FinalLaws.{returning}
+use Rattle.closures.proofs.write_closure_arcs.Tie as tie
+use Rattle.closures.proofs.write_closure_arcs.Reads as reads
+use Rattle.closures.proofs.write_closure_arcs.Lts as lts
+use Rattle.joining.proofs.finals.write_final_arcs.Reads as write-final-arcs-reads
+use Rattle.joining.proofs.groups.write_entry.Reads as write-entry-reads
+use Rattle.joining.proofs.groups.write_moved_arcs.Reads as write-moved-arcs-reads
+
+-- the parts
+abbrev parts : (s : tie.Start) → let x = automatonOf (s .args .file .now) in
+    arcsBytes (closure x .arcs) ≡ arcBytes (emptyMove 0 1) ++ (arcsBytes (map (movedArc 1 0) (x .arcs)) ++ arcsBytes (map (returning 1 1 (s .args .a .registers)) (finalStates 0 (x .finals))))
+parts s = closure-arc-parts (automatonOf (s .args .file .now)) (ap (λ (d : Counts). d .registers) (valid-sizes _ _ (s .pre .0)))
+
+-- src/lib.rt:53:9
+write-entry-requires : tie.Need-write-entry-requires
+write-entry-requires c κs =
+    let s = c .before .before .before in
+    (omega arith, omega (arith, simp length-append at (rw (parts s) at (s .pre .2)), entry-length 1))
+
+-- src/lib.rt:54:9
+write-moved-arcs-requires : tie.Need-write-moved-arcs-requires
+write-moved-arcs-requires c κs =
+    let entry = c .before .before .before in
+    let s = entry .before .before .before .before in
+    (s .pre .0, s .pre .1, omega arith, omega (arith, simp length-append at (rw (parts s) at (s .pre .2)), appended-ends (entry .write-entry .ensures)))
+
+-- src/lib.rt:55:5
+write-final-arcs-requires : tie.Need-write-final-arcs-requires
+write-final-arcs-requires c κs =
+    let moved = c .before .before .before in
+    let entry = moved .before .before .before .before in
+    let s = entry .before .before .before .before in
+    let r = valid-ranges _ _ (s .pre .0) in (
+      s .pre .0,
+      s .pre .1,
+      omega arith,
+      r .registers,
+      omega (arith, simp length-append at (rw (parts s) at (s .pre .2)), appended-ends (entry .write-entry .ensures), appended-ends (moved .write-moved-arcs .ensures)),
+    )
+
+-- src/lib.rt:49:1
+same-length : tie.Need-same-length
+same-length c = search needs
+
+-- src/lib.rt:49:1
+returns : tie.Need-returns
+returns c =
+    let final = c .before .before in
+    let moved = final .before .before .before .before in
+    let entry = moved .before .before .before .before in
+    let s = entry .before .before .before .before in
+    rw (parts s) (written-then (entry .write-entry .ensures) (written-then (moved .write-moved-arcs .ensures) (final .write-final-arcs .ensures)))
+
+pub write-closure-arcs-spec : {M : Type 1} → statement M
+write-closure-arcs-spec =
+    tie.close
+    (tie.spec
+    write-entry-requires
+    write-moved-arcs-requires
+    write-final-arcs-requires
+    same-length
+    returns)

@@ -1,0 +1,2 @@
+pub mod ConcatenationBytes
+pub mod ConcatenationFits

@@ -1,0 +1,168 @@
+use mathlib.Core.Path.{_∙_, _≡_, ap, sym, refl}
+use Prim.Native.Nat.{_*_, _+_, _≤_}
+use native.Mathlib.Omega.{arith}
+use borrow.Author.Needs.{needs}
+use lib.ListN.{length}
+use Rattle.automata.specs.Automaton.{Automaton}
+use Rattle.automata.specs.Joins.{concatenation}
+use Rattle.file_parts.specs.declared.Counts.{Counts}
+use Rattle.format.specs.Decoding.{automatonOf}
+use Rattle.format.specs.Encoding.{sizes}
+use Rattle.file_laws.proofs.ValidLaws.{valid-fits, valid-ranges, valid-sizes}
+use Rattle.joining.specs.Joining.{writtenOf}
+use Rattle.joining.proofs.AnswerLaws.{decided-written, written-bytes}
+use Rattle.joining.proofs.FinalLaws.{valid-lengths}
+use Rattle.concatenations.proofs.append.Statement.{statement}
+use Rattle.concatenations.proofs.ConcatenationBytes.{concatenation-counts, concatenation-length}
+use Rattle.concatenations.proofs.ConcatenationFits.{concatenation-fits, concatenation-ops}
+use Rattle.concatenations.proofs.append.Tie as tie
+use Rattle.concatenations.proofs.append.Reads as reads
+use Rattle.concatenations.proofs.append.Lts as lts
+use Rattle.concatenations.proofs.concatenation_counts.Reads as concatenation-counts-reads
+use Rattle.concatenations.proofs.write_concatenation.Reads as write-concatenation-reads
+use Rattle.joining.proofs.answer.arcs_size.Reads as arcs-size-reads
+use Rattle.joining.proofs.answer.decide.Reads as decide-reads
+use Rattle.joining.proofs.finals.count_finals.Reads as count-finals-reads
+use Rattle.writing.proofs.FileParts.{file-written}
+
+-- the automata, and the counts of their concatenation
+abbrev joined : tie.Start → Automaton
+joined s = concatenation (automatonOf (s .args .first .now)) (automatonOf (s .args .second .now))
+
+counts : (c : tie.After-concatenation-counts) → sizes (joined (c .before .before .before .before .before)) ≡ c .concatenation-counts .result
+counts c =
+    let s = c .before .before .before .before .before in
+    c .concatenation-counts .ensures (automatonOf (s .args .first .now)) (automatonOf (s .args .second .now))
+    (valid-sizes _ _ (s .pre .first)) (sym (c .before .count-finals .ensures .0)) (valid-sizes _ _ (s .pre .second))
+
+-- no more final states than states
+few-finals : (c : tie.After-count-finals) → c .count-finals .result ≤ 256
+few-finals c = omega (arith, c .count-finals .ensures .1, valid-ranges _ _ (c .before .before .before .before .pre .first) .states)
+
+-- the counts are small
+small : (c : tie.After-concatenation-counts) → let r = c .concatenation-counts .result in (r .letters ≤ 64) × (r .states ≤ 512) × (c .before .count-finals .result ≤ 256)
+small c =
+    let s = c .before .before .before .before .before in
+    let ra = valid-ranges _ _ (s .pre .first) in
+    let rb = valid-ranges _ _ (s .pre .second) in
+    let la = valid-lengths _ _ (s .pre .first) in
+    let lb = valid-lengths _ _ (s .pre .second) in
+    let e = sym (counts c) ∙ concatenation-counts (automatonOf (s .args .first .now)) (automatonOf (s .args .second .now)) refl in
+    (omega (arith, ap (λ (d : Counts). d .letters) e, ra .letters), omega (arith, ap (λ (d : Counts). d .states) e, ra .states, rb .states), few-finals (c .before))
+
+-- the answer
+answered : (c : tie.After-decide) → let s = c .before .before .before .before .before .before .before .before .before .before in
+    c .decide .result ≡ writtenOf (joined s) (length (s .args .out .now))
+answered c =
+    let second = c .before in
+    let first = second .before in
+    let u = first .before .before .before in
+    let f = u .before .count-finals in
+    let s = u .before .before .before .before .before in
+    let x = automatonOf (s .args .first .now) in
+    let y = automatonOf (s .args .second .now) in
+    let r = u .concatenation-counts .result in
+    let size = 12 + r .letters + r .states + first .arcs-size .result + 6 * f .result + second .arcs-size2 .result in
+    let n = counts u in
+    c .decide .ensures
+    ∙ decided-written (concatenation x y) (length (s .args .out .now)) r size (concatenation-ops x y (valid-fits _ _ (s .pre .first)) (valid-fits _ _ (s .pre .second)) (s .pre .shared)) n
+    (omega (arith, concatenation-length x y, ap (λ (d : Counts). d .letters) n, ap (λ (d : Counts). d .states) n, f .ensures .0, first .arcs-size .ensures .0, second .arcs-size2 .ensures .0))
+
+-- src/lib.rt:80:9
+count-finals-requires : tie.Need-count-finals-requires
+count-finals-requires c κs = search needs
+
+-- src/lib.rt:81:9
+concatenation-counts-requires : tie.Need-concatenation-counts-requires
+concatenation-counts-requires c κs =
+    let s = c .before .before .before .before in
+    (valid-ranges _ _ (s .pre .first), few-finals c, valid-ranges _ _ (s .pre .second))
+
+-- src/lib.rt:82:17
+mul-moves : tie.Need-mul-moves
+mul-moves c = omega (arith, small c)
+
+-- src/lib.rt:83:16
+add-size : tie.Need-add-size
+add-size c = omega (arith, small (c .before))
+
+-- src/lib.rt:83:16
+add-size-2 : tie.Need-add-size-2
+add-size-2 c = omega (arith, small (c .before .before))
+
+-- src/lib.rt:83:44
+arcs-size-requires : tie.Need-arcs-size-requires
+arcs-size-requires c κs = search needs
+
+-- src/lib.rt:83:16
+add-size-3 : tie.Need-add-size-3
+add-size-3 c = omega (arith, small (c .before .before .before), c .arcs-size .ensures .1)
+
+-- src/lib.rt:83:16
+add-size-4 : tie.Need-add-size-4
+add-size-4 c = omega (arith, small (c .before .before .before), c .arcs-size .ensures .1)
+
+-- src/lib.rt:83:74
+arcs-size-requires-2 : tie.Need-arcs-size-requires-2
+arcs-size-requires-2 c κs = search needs
+
+-- src/lib.rt:83:16
+add-size-5 : tie.Need-add-size-5
+add-size-5 c = omega (arith, small (c .before .before .before .before), c .before .arcs-size .ensures .1, c .arcs-size2 .ensures .1)
+
+-- src/lib.rt:84:9
+decide-requires : tie.Need-decide-requires
+decide-requires c κs = search needs
+
+enum-told : tie.Need-enum-told
+enum-told c = search needs
+
+-- src/lib.rt:86:9
+enum-told-2 : tie.Need-enum-told-2
+enum-told-2 c = search needs
+
+-- src/lib.rt:86:9
+returns : tie.Need-returns
+returns c = (answered (c .before .before), rw (c .enum-told2 .given .1))
+
+-- src/lib.rt:88:5
+write-concatenation-requires : tie.Need-write-concatenation-requires
+write-concatenation-requires c κs =
+    let d = c .before .before .before in
+    let u = d .before .before .before .before .before in
+    let s = u .before .before .before .before .before in
+    let w = written-bytes (joined s) (length (s .args .out .now)) (sym (answered d) ∙ c .before .enum-told .given .1) in
+    (s .pre, counts u, concatenation-fits _ _ (valid-fits _ _ (s .pre .first)) (valid-fits _ _ (s .pre .second)) (s .pre .shared) (w .within), w .room)
+
+-- src/lib.rt:75:1
+same-length : tie.Need-same-length
+same-length c = search needs
+
+-- src/lib.rt:75:1
+returns-2 : tie.Need-returns-2
+returns-2 c =
+    let w = c .before .before in
+    let told = w .before .before in
+    (answered (told .before .before), rw (told .enum-told .given .1) (file-written (w .write-concatenation .ensures)))
+
+pub append-spec : {M : Type 1} → statement M
+append-spec =
+    tie.close
+    (tie.spec
+    count-finals-requires
+    concatenation-counts-requires
+    mul-moves
+    add-size
+    add-size-2
+    arcs-size-requires
+    add-size-3
+    add-size-4
+    arcs-size-requires-2
+    add-size-5
+    decide-requires
+    enum-told
+    enum-told-2
+    returns
+    write-concatenation-requires
+    same-length
+    returns-2)

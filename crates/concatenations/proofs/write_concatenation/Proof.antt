@@ -1,0 +1,113 @@
+use mathlib.Core.Path.{_≡_, ap, subst, refl}
+use mathlib.Core.List.{List, _++_, map}
+use Prim.Native.Nat.{_+_, _≤_, ℕ}
+use native.Mathlib.Omega.{arith}
+use borrow.Author.Needs.{needs}
+use lib.ListN.{length, length-append, length-replicate, replicate}
+use Rattle.automata.specs.Joins.{concatenation}
+use Rattle.automata.proofs.SearchLaws.{at}
+use Rattle.file_parts.specs.declared.Counts.{Counts}
+use Rattle.format.specs.Limits.{Ranges}
+use Rattle.format.specs.Encoding.{arcsBytes, bytesOf, flagByte, headerBytes}
+use Rattle.format.specs.Decoding.{automatonOf}
+use Rattle.writing.specs.Placing.{Appended}
+use Rattle.writing.proofs.Placed.{appended-length, written-then}
+use Rattle.joining.proofs.FinalLaws.{flags-end, valid-lengths}
+use Rattle.concatenations.proofs.write_concatenation.Statement.{statement}
+use Rattle.concatenations.proofs.ConcatenationBytes.{concatenation-counts, concatenation-parts}
+use Rattle.concatenations.proofs.write_concatenation.Tie as tie
+use Rattle.concatenations.proofs.write_concatenation.Reads as reads
+use Rattle.concatenations.proofs.write_concatenation.Lts as lts
+use Rattle.concatenations.proofs.write_concatenation_arcs.Reads as write-concatenation-arcs-reads
+use Rattle.joining.proofs.flags.write_flags.Reads as write-flags-reads
+use Rattle.writing.proofs.front.write_front.Reads as write-front-reads
+use Rattle.writing.proofs.parts.write_zeros.Reads as write-zeros-reads
+use Rattle.writing.proofs.FileParts.{front-ends, header-length}
+
+-- the parts, and room for them
+abbrev parts : (s : tie.Start) → let x = automatonOf (s .args .first .now) in let y = automatonOf (s .args .second .now) in
+    bytesOf (concatenation x y) ≡ (headerBytes (s .args .c) ++ x .alphabet) ++ (replicate (s .args .a .states) 0 ++ (map flagByte (y .finals) ++ arcsBytes (concatenation x y .arcs)))
+parts s = concatenation-parts (automatonOf (s .args .first .now)) (automatonOf (s .args .second .now)) (s .pre .1) (valid-lengths _ _ (s .pre .0 .first) .1)
+
+room : (s : tie.Start) → let x = automatonOf (s .args .first .now) in let y = automatonOf (s .args .second .now) in
+    12 + s .args .a .letters + s .args .a .states + s .args .b .states + length (arcsBytes (concatenation x y .arcs)) ≤ length (s .args .out .now)
+room s =
+    omega (
+      arith,
+      simp length-append at (rw (parts s) at (s .pre .3)),
+      header-length (s .args .c),
+      length-replicate {A = ℕ} (s .args .a .states) 0,
+      valid-lengths _ _ (s .pre .0 .first),
+      valid-lengths _ _ (s .pre .0 .second),
+    )
+
+-- where the zeros end
+zeros-end : (n : ℕ) {at next : ℕ} {old out : List ℕ} → Appended at (replicate n 0) old out next → (next ≡ at + n) × (length out ≡ length old)
+zeros-end n w = (omega (arith, w .behind, length-replicate {A = ℕ} n 0), appended-length w)
+
+-- src/lib.rt:68:9
+write-front-requires : tie.Need-write-front-requires
+write-front-requires c κs =
+    let s = c .before .before .before .before in
+    (subst (λ (d : Counts). Ranges d) (s .pre .1) (s .pre .2 .ranges), s .pre .0 .first, omega (arith, room s))
+
+-- src/lib.rt:69:9
+write-zeros-requires : tie.Need-write-zeros-requires
+write-zeros-requires c κs =
+    let front = c .before .before .before in
+    let s = front .before .before .before .before .before in
+    omega (arith, room s, front-ends _ _ (s .pre .0 .first) (s .args .c) (front .write-front .ensures))
+
+-- src/lib.rt:70:9
+write-flags-requires : tie.Need-write-flags-requires
+write-flags-requires c κs =
+    let zeros = c .before .before .before in
+    let front = zeros .before .before .before .before in
+    let s = front .before .before .before .before .before in (
+      search needs,
+      omega (arith, room s, front-ends _ _ (s .pre .0 .first) (s .args .c) (front .write-front .ensures), zeros-end (s .args .a .states) (zeros .write-zeros .ensures)),
+    )
+
+-- src/lib.rt:71:5
+write-concatenation-arcs-requires : tie.Need-write-concatenation-arcs-requires
+write-concatenation-arcs-requires c κs =
+    let flags = c .before .before .before in
+    let zeros = flags .before .before .before .before in
+    let front = zeros .before .before .before .before in
+    let s = front .before .before .before .before .before in
+    let v = s .pre .0 in (
+      v,
+      omega (arith, s .pre .2 .ranges .states, ap (λ (c : Counts). c .states) (concatenation-counts (automatonOf (s .args .first .now)) (automatonOf (s .args .second .now)) refl), valid-lengths _ _ (v .first), valid-lengths _ _ (v .second)),
+      omega (
+        arith,
+        room s,
+        front-ends _ _ (v .first) (s .args .c) (front .write-front .ensures),
+        zeros-end (s .args .a .states) (zeros .write-zeros .ensures),
+        flags-end _ _ (v .second) (flags .write-flags .ensures),
+      ),
+    )
+
+-- src/lib.rt:57:1
+same-length : tie.Need-same-length
+same-length c = search needs
+
+-- src/lib.rt:57:1
+returns : tie.Need-returns
+returns c =
+    let arcs = c .before .before in
+    let flags = arcs .before .before .before .before in
+    let zeros = flags .before .before .before .before in
+    let front = zeros .before .before .before .before in
+    let s = front .before .before .before .before .before in
+    rw (parts s) (written-then (front .write-front .ensures) (written-then (zeros .write-zeros .ensures) (written-then (flags .write-flags .ensures) (arcs .write-concatenation-arcs .ensures))))
+
+pub write-concatenation-spec : {M : Type 1} → statement M
+write-concatenation-spec =
+    tie.close
+    (tie.spec
+    write-front-requires
+    write-zeros-requires
+    write-flags-requires
+    write-concatenation-arcs-requires
+    same-length
+    returns)

@@ -1,0 +1,66 @@
+-- Whether p pairs of bytes are operations: all are exactly if those that are left are.
+use mathlib.Core.Path.{_≡_, sym, _∙_}
+use native.Mathlib.Omega.{arith}
+use mathlib.Core.Bool.{_&&_}
+use Prim.Native.Nat.{_+_, _-_, _*_, _≤_}
+use lib.ListN.{getD, drop}
+use Rattle.file_parts.specs.Parts.{wellOp, wellOps}
+use Rattle.file_parts.proofs.Tests.{passed, failed}
+use Rattle.file_parts.proofs.Steps.{ops-at, ops-end}
+use Rattle.file_arcs.proofs.are_operations.Statement.{statement}
+use Rattle.file_arcs.proofs.are_operations.Tie as tie
+
+abbrev Inv-loop : tie.InvT-loop
+Inv-loop c s p i₀ i = (i ≤ p) × (wellOps c p s ≡ wellOps c (p - i) (drop (2 * i) s))
+
+abbrev μ-loop : tie.MeasureT-loop
+μ-loop c s p i₀ i = p - i
+
+-- what this turn decides
+turn : (c : tie.In-loop Inv-loop μ-loop) → let a = c .before .before .before .args in let s = a .s .now in let i = c .before .loop .i in
+    wellOps (a .c) (a .p) s ≡ (wellOp (a .c) (getD s (2 * i) 0) (getD s (2 * i + 1) 0) && wellOps (a .c) (a .p - (i + 1)) (drop (2 * (i + 1)) s))
+turn c =
+    let a = c .before .before .before .args in
+    c .before .loop .inv .1 ∙ ops-at (a .c) (a .p) (c .before .loop .i) (a .s .now) (c .loop-test .taken)
+
+loop-holds : tie.Need-loop-holds Inv-loop μ-loop
+loop-holds c = let p = c .before .args .p in let e : p - 0 ≡ p = omega arith in (omega arith, rw e)
+
+mul-is-operation : tie.Need-mul-is-operation Inv-loop μ-loop
+mul-is-operation c = omega arith
+
+is-operation-requires : tie.Need-is-operation-requires Inv-loop μ-loop
+is-operation-requires c κs = omega arith
+
+returns : tie.Need-returns Inv-loop μ-loop
+returns c = sym (turn (c .before .before) ∙ rw (failed (c .before .is-operation .ensures) (c .if1 .taken)))
+
+add-i : tie.Need-add-i Inv-loop μ-loop
+add-i c = omega arith
+
+loop-less : tie.Need-loop-less Inv-loop μ-loop
+loop-less c = omega arith
+
+loop-again : tie.Need-loop-again Inv-loop μ-loop
+loop-again c = (omega arith, turn (c .before .before) ∙ rw (passed (c .before .is-operation .ensures) (c .if1 .left)))
+
+returns-2 : tie.Need-returns-2 Inv-loop μ-loop
+returns-2 c =
+    let a = c .before .before .before .args in
+    let l = c .before .loop in
+    sym (l .inv .1 ∙ ops-end (a .c) (a .p) (l .i) (drop (2 * l .i) (a .s .now)) (omega arith))
+
+pub are-operations-spec : {M : Type 1} → statement M
+are-operations-spec =
+    tie.close
+    (tie.spec
+    Inv-loop
+    μ-loop
+    loop-holds
+    mul-is-operation
+    is-operation-requires
+    returns
+    add-i
+    loop-less
+    loop-again
+    returns-2)

@@ -1,0 +1,139 @@
+use Prim.Native.Nat.{_+_, _*_, _<_}
+use native.Mathlib.Omega.{arith}
+use borrow.Author.Needs.{needs}
+use lib.ListN.{length-take, length-drop}
+use lib.Seq.{getD-drop}
+use Rattle.format.specs.Decoding.{letterOf}
+use Rattle.file_parts.proofs.Steps.{tail}
+use Rattle.joining.proofs.Walking.{arc-at}
+use Rattle.pairing.proofs.ArcsOf.{source-at, target-at}
+use Rattle.joint_arcs.proofs.beside.write_beside.Statement.{statement}
+use Rattle.joint_arcs.proofs.beside.write_beside.Tie as tie
+use Rattle.joint_arcs.proofs.beside.write_beside.Reads as reads
+use Rattle.joint_arcs.proofs.beside.write_beside.Lts as lts
+use Rattle.file_parts.proofs.fields.byte.Reads as byte-reads
+use Rattle.arc_writing.proofs.write_arc.Reads as write-arc-reads
+
+-- its states are bytes
+source-small : (c : tie.After-byte) → let a = c .before .before .before .args in c .byte .result * a .b .scale + a .i * a .b .step < 256
+source-small c =
+    let s = c .before .before .before in
+    rw (c .byte .ensures .0, ← source-at (s .args .file .now) (s .args .from)) (s .pre .1)
+
+target-small : (c : tie.After-byte2) → let a = c .before .before .before .before .before .before .args in c .byte2 .result * a .b .scale + a .i * a .b .step < 256
+target-small c =
+    let s = c .before .before .before .before .before .before in
+    rw (c .byte2 .ensures .0, ← target-at (s .args .file .now) (s .args .from)) (s .pre .2)
+
+-- src/beside.rt:34:17
+byte-requires : tie.Need-byte-requires
+byte-requires c κs = search needs
+
+-- src/beside.rt:34:17
+mul-t11 : tie.Need-mul-t11
+mul-t11 c = omega (arith, source-small (c .before))
+
+-- src/beside.rt:34:46
+mul-t12 : tie.Need-mul-t12
+mul-t12 c = search needs
+
+-- src/beside.rt:34:17
+add-t13 : tie.Need-add-t13
+add-t13 c = omega (arith, source-small (c .before .before))
+
+-- src/beside.rt:36:28
+add-byte : tie.Need-add-byte
+add-byte c = search needs
+
+-- src/beside.rt:36:17
+byte-requires-2 : tie.Need-byte-requires-2
+byte-requires-2 c κs = search needs
+
+-- src/beside.rt:36:17
+mul-write-arc : tie.Need-mul-write-arc
+mul-write-arc c = omega (arith, target-small (c .before))
+
+-- src/beside.rt:36:50
+mul-write-arc-2 : tie.Need-mul-write-arc-2
+mul-write-arc-2 c = search needs
+
+-- src/beside.rt:36:17
+add-write-arc : tie.Need-add-write-arc
+add-write-arc c = omega (arith, target-small (c .before .before))
+
+-- src/beside.rt:38:24
+add-byte-2 : tie.Need-add-byte-2
+add-byte-2 c = search needs
+
+-- src/beside.rt:38:9
+byte-requires-3 : tie.Need-byte-requires-3
+byte-requires-3 c κs = search needs
+
+-- src/beside.rt:39:15
+add-ops : tie.Need-add-ops
+add-ops c = search needs
+
+-- src/beside.rt:40:27
+sub-write-arc : tie.Need-sub-write-arc
+sub-write-arc c = search needs
+
+-- src/beside.rt:40:27
+part-write-arc-start : tie.Need-part-write-arc-start
+part-write-arc-start c = search needs
+
+-- src/beside.rt:40:27
+part-write-arc-end : tie.Need-part-write-arc-end
+part-write-arc-end c = search needs
+
+-- src/beside.rt:40:5
+write-arc-requires : tie.Need-write-arc-requires
+write-arc-requires c κs =
+    let p = c .before .before .byte3 in
+    let s = c .before .before .before .before .before .before .before .before .before .before .before in
+    let file = s .args .file .now in
+    let size = getD-drop (s .args .from) file 3 0 in (
+      record { source = source-small (c .before .before .before .before .before .before .before .before); letter = omega arith; target = target-small (c .before .before .before .before .before) },
+      p .ensures .1,
+      s .pre .3,
+      simp (length-take, length-drop) (omega (arith, s .pre .0, p .ensures .0)),
+      omega (arith, s .pre .4, p .ensures .0),
+    )
+
+-- src/beside.rt:29:1
+same-length : tie.Need-same-length
+same-length c = search needs
+
+-- src/beside.rt:29:1
+returns : tie.Need-returns
+unfolding letterOf
+returns c =
+    let w = c .before .before in
+    let p = w .before .before .before .byte3 in
+    let target = w .before .before .before .before .before .before .byte2 in
+    let source = w .before .before .before .before .before .before .before .before .before .byte in
+    let a = w .before .before .before .before .before .before .before .before .before .before .before .before .args in
+    let file = a .file .now in
+    rw (arc-at file (a .from), ← source .ensures .0, ← target .ensures .0, ← p .ensures .0) (rw (tail file (a .from + 4)) at (w .write-arc .ensures))
+
+pub write-beside-spec : {M : Type 1} → statement M
+write-beside-spec =
+    tie.close
+    (tie.spec
+    byte-requires
+    mul-t11
+    mul-t12
+    add-t13
+    add-byte
+    byte-requires-2
+    mul-write-arc
+    mul-write-arc-2
+    add-write-arc
+    add-byte-2
+    byte-requires-3
+    add-ops
+    sub-write-arc
+    part-write-arc-start
+    part-write-arc-end
+    write-arc-requires
+    same-length
+    returns)

@@ -1,0 +1,5 @@
+pub mod Numbering
+pub mod Frames
+pub mod Fields
+pub mod Tabling
+pub mod Finding

@@ -1,0 +1,3 @@
+pub mod ArcsOf
+pub mod Groups
+pub mod Uncounted

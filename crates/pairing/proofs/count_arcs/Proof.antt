@@ -1,0 +1,82 @@
+use mathlib.Core.Path.{refl}
+use mathlib.Core.List.{_++_, flatMap, append-assoc}
+use Prim.Native.Nat.{_-_}
+use native.Mathlib.Omega.{arith}
+use borrow.Author.Needs.{needs}
+use lib.ListN.{length-map}
+use Rattle.automata.specs.Joins.{arcLeft, arcRight, movedOp}
+use Rattle.format.specs.Decoding.{automatonOf}
+use Rattle.file_laws.proofs.ValidLaws.{valid-ranges}
+use Rattle.joining.proofs.FinalLaws.{valid-lengths}
+use Rattle.pairing.specs.Pairing.{jointWith, emptyWith}
+use Rattle.pairing.proofs.Uncounted.{tallied-append}
+use Rattle.pairing.proofs.Groups.{arc-groups}
+use Rattle.pairing.proofs.count_arcs.Statement.{statement}
+use Rattle.pairing.proofs.count_arcs.Tie as tie
+use Rattle.pairing.proofs.count_arcs.Reads as reads
+use Rattle.pairing.proofs.count_arcs.Lts as lts
+use Rattle.pairing.proofs.count_empty.Reads as count-empty-reads
+use Rattle.pairing.proofs.count_lettered.Reads as count-lettered-reads
+
+-- src/lib.rt:101:9
+count-lettered-requires : tie.Need-count-lettered-requires
+count-lettered-requires c κs = search needs
+
+-- src/lib.rt:102:9
+count-empty-requires : tie.Need-count-empty-requires
+count-empty-requires c κs = (c .before .before .before .pre .0, valid-ranges _ _ (c .before .before .before .pre .1) .states)
+
+-- src/lib.rt:103:9
+count-empty-requires-2 : tie.Need-count-empty-requires-2
+count-empty-requires-2 c κs = (c .before .before .before .before .pre .1, valid-ranges _ _ (c .before .before .before .before .pre .0) .states)
+
+-- src/lib.rt:105:15
+add-t8 : tie.Need-add-t8
+add-t8 c = search needs
+
+-- src/lib.rt:105:15
+add-t9 : tie.Need-add-t9
+add-t9 c = search needs
+
+-- src/lib.rt:106:15
+add-t10 : tie.Need-add-t10
+add-t10 c = search needs
+
+-- src/lib.rt:106:15
+add-t11 : tie.Need-add-t11
+add-t11 c = search needs
+
+-- src/lib.rt:97:1
+returns : tie.Need-returns
+returns c =
+    let right = c .before .before .before .before .before .before .before .before .before in
+    let left = right .before in
+    let joint = left .before in
+    let s = joint .before .before .before in
+    let a = s .args in
+    let x = automatonOf (a .first .now) in
+    let y = automatonOf (a .second .now) in
+    let n = a .b .states in
+    let k = x .registers - 1 in
+    let lettered = flatMap (jointWith n k (y .arcs)) (x .arcs) in
+    let lefts = emptyWith (arcLeft n) n (x .arcs) in
+    let rights = emptyWith (arcRight n k) (a .a .states) (y .arcs) in (
+      rw (arc-groups x y (valid-lengths _ _ (s .pre .0) .1) (valid-lengths _ _ (s .pre .1) .1) refl, ← append-assoc lettered lefts rights)
+          (tallied-append (lettered ++ lefts) rights (tallied-append lettered lefts (joint .count-lettered .ensures .0 n k) (left .count-empty .ensures .0 (arcLeft n) (λ z i. refl)))
+          (right .count-empty2 .ensures .0 (arcRight n k) (λ z i. length-map (z .ops) (movedOp k)))),
+      omega (arith, joint .count-lettered .ensures .1, left .count-empty .ensures .1, right .count-empty2 .ensures .1),
+      omega (arith, joint .count-lettered .ensures .1, left .count-empty .ensures .1, right .count-empty2 .ensures .1),
+    )
+
+pub count-arcs-spec : {M : Type 1} → statement M
+count-arcs-spec =
+    tie.close
+    (tie.spec
+    count-lettered-requires
+    count-empty-requires
+    count-empty-requires-2
+    add-t8
+    add-t9
+    add-t10
+    add-t11
+    returns)

@@ -1,0 +1,130 @@
+use mathlib.Core.Path.{_≡_}
+use mathlib.Core.List.{flatMap}
+use Prim.Native.Nat.{ℕ, _-_, _*_, _≤_}
+use native.Mathlib.Omega.{arith}
+use lib.ListN.{drop}
+use Rattle.format.specs.Decoding.{arcOf, arcsOf, automatonOf}
+use Rattle.file_laws.proofs.ValidLaws.{valid-arcs, valid-ranges}
+use Rattle.joining.proofs.Walking.{ArcHere, Walk, walk-here, walk-on, walk-start}
+use Rattle.pairing.specs.Pairing.{jointWith}
+use Rattle.pairing.proofs.Uncounted.{Uncounted, uncounted-all, uncounted-less, uncounted-none}
+use Rattle.pairing.proofs.ArcsOf.{flat-next, flat-none}
+use Rattle.pairing.proofs.count_lettered.Statement.{statement}
+use Rattle.pairing.proofs.count_lettered.Tie as tie
+use Rattle.pairing.proofs.count_lettered.Reads as reads
+use Rattle.pairing.proofs.count_lettered.Lts as lts
+use Rattle.file_parts.proofs.fields.arc_size.Reads as arc-size-reads
+use Rattle.pairing.proofs.count_joint.Reads as count-joint-reads
+
+abbrev Inv-loop : tie.InvT-loop
+Inv-loop a first b second arcs₀ size₀ many₀ from₀ i₀ arcs size many from i = (i ≤ a .arcs) × Walk a first (a .arcs - i) from × (arcs ≤ 2048 * i) × (size ≤ 2097152 * i) × ((n k : ℕ) → Uncounted (record { arcs = arcs; size = size; many = many }) (flatMap (jointWith n k (automatonOf second .arcs)) (arcsOf (a .arcs - i) (drop from first))) (flatMap (jointWith n k (automatonOf second .arcs)) (arcsOf (a .arcs) (drop from₀ first))))
+
+abbrev μ-loop : tie.MeasureT-loop
+μ-loop a first b second arcs₀ size₀ many₀ from₀ i₀ arcs size many from i = a .arcs - i
+
+-- the arc of this turn
+here : (c : tie.Then1 Inv-loop μ-loop) → let l = c .before .before in let a = l .before .before .before .before .before .args in ArcHere (a .a) (a .first .now) (l .loop .from)
+here c =
+    let l = c .before .before in
+    let a = l .before .before .before .before .before .args in
+    walk-here (a .a) (a .first .now) (a .a .arcs) (l .loop .i) (l .loop .from) (c .if1 .taken) (l .loop .inv .1)
+
+-- src/lib.rt:58:20
+add-from : tie.Need-add-from Inv-loop μ-loop
+add-from c = omega (arith, valid-ranges _ _ (c .before .before .before .pre .0) .letters)
+
+-- src/lib.rt:58:20
+add-from-2 : tie.Need-add-from-2 Inv-loop μ-loop
+add-from-2 c =
+    let r = valid-ranges _ _ (c .before .before .before .before .pre .0) in
+    omega (arith, r .letters, r .states)
+
+-- src/lib.rt:60:5
+loop-holds : tie.Need-loop-holds Inv-loop μ-loop
+loop-holds c =
+    let s = c .before .before .before .before in
+    let m = s .args .a .arcs in
+    let e : m - 0 ≡ m = omega arith in
+    (omega arith, rw e (walk-start _ _ (s .pre .0)), omega arith, omega arith, λ n k. rw e (uncounted-all _))
+
+-- src/lib.rt:61:13
+count-joint-requires : tie.Need-count-joint-requires Inv-loop μ-loop
+count-joint-requires c κs = (here c .whole, c .before .before .before .before .before .before .before .pre .1)
+
+-- src/lib.rt:62:9
+add-arcs : tie.Need-add-arcs Inv-loop μ-loop
+add-arcs c =
+    let l = c .before .before .before .before in
+    omega (arith, c .before .count-joint .ensures .1, l .loop .inv .2, c .before .before .if1 .taken, valid-ranges _ _ (l .before .before .before .before .before .pre .0) .arcs)
+
+-- src/lib.rt:63:9
+add-size : tie.Need-add-size Inv-loop μ-loop
+add-size c =
+    let l = c .before .before .before .before .before in
+    omega (arith, c .before .before .count-joint .ensures .1, l .loop .inv .3, c .before .before .before .if1 .taken, valid-ranges _ _ (l .before .before .before .before .before .pre .0) .arcs)
+
+-- src/lib.rt:65:17
+arc-size-requires : tie.Need-arc-size-requires Inv-loop μ-loop
+arc-size-requires c κs = omega (arith, here (c .before .before .before .before) .whole)
+
+-- src/lib.rt:65:9
+add-from-3 : tie.Need-add-from-3 Inv-loop μ-loop
+add-from-3 c = omega (arith, here (c .before .before .before .before .before) .whole, c .arc-size .ensures .0)
+
+-- src/lib.rt:66:9
+add-i : tie.Need-add-i Inv-loop μ-loop
+add-i c = omega arith
+
+-- src/lib.rt:60:5
+loop-less : tie.Need-loop-less Inv-loop μ-loop
+loop-less c = omega arith
+
+-- src/lib.rt:60:5
+loop-again : tie.Need-loop-again Inv-loop μ-loop
+loop-again c =
+    let joint = c .before .before .before .before in
+    let t = joint .before in
+    let l = t .before .before in
+    let a = l .before .before .before .before .before .args in
+    let first = a .first .now in
+    let ys = automatonOf (a .second .now) .arcs in
+    let m = a .a .arcs in
+    let i = l .loop .i in (
+      omega arith,
+      rw (c .arc-size .ensures .0) (walk-on (a .a) first m i (l .loop .from) (t .if1 .taken) (l .loop .inv .1)),
+      omega (arith, joint .count-joint .ensures .1, l .loop .inv .2),
+      omega (arith, joint .count-joint .ensures .1, l .loop .inv .3),
+      λ n k. rw (c .arc-size .ensures .0)
+          (uncounted-less (jointWith n k ys (arcOf (drop (l .loop .from) first))) _ (joint .count-joint .ensures .0 n k) (rw (flat-next (jointWith n k ys) (a .a) first m i (l .loop .from) (t .if1 .taken)) at (l .loop .inv .4 n k))),
+    )
+
+-- src/lib.rt:51:1
+returns : tie.Need-returns Inv-loop μ-loop
+returns c =
+    let l = c .before .before in
+    let s = l .before .before .before .before .before in
+    let a = s .args in
+    let r = valid-ranges _ _ (s .pre .0) in (
+      λ n k. rw (valid-arcs _ _ (s .pre .0)) (uncounted-none (rw (flat-none (jointWith n k (automatonOf (a .second .now) .arcs)) (a .a) (a .first .now) (a .a .arcs) (l .loop .i) (l .loop .from) (c .if1 .left)) at (l .loop .inv .4 n k))),
+      omega (arith, r .arcs),
+      omega (arith, r .arcs),
+    )
+
+pub count-lettered-spec : {M : Type 1} → statement M
+count-lettered-spec =
+    tie.close
+    (tie.spec
+    Inv-loop
+    μ-loop
+    add-from
+    add-from-2
+    loop-holds
+    count-joint-requires
+    add-arcs
+    add-size
+    arc-size-requires
+    add-from-3
+    add-i
+    loop-less
+    loop-again
+    returns)

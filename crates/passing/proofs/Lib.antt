@@ -1,0 +1,5 @@
+pub mod Packing
+pub mod Meaning
+pub mod Performing
+pub mod Places
+pub mod Linking

@@ -1,0 +1,2 @@
+pub mod UnionBytes
+pub mod UnionFits

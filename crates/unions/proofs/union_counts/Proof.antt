@@ -1,0 +1,42 @@
+use borrow.Author.Needs.{needs}
+use Rattle.unions.proofs.union_counts.Statement.{statement}
+use Rattle.unions.proofs.UnionBytes.{union-counts}
+use Rattle.unions.proofs.union_counts.Tie as tie
+use Rattle.unions.proofs.union_counts.Reads as reads
+use Rattle.unions.proofs.union_counts.Lts as lts
+use Rattle.joining.proofs.answer.larger.Reads as larger-reads
+
+-- src/union.rt:31:17
+add-t3 : tie.Need-add-t3
+add-t3 c = search needs
+
+-- src/union.rt:31:17
+add-t4 : tie.Need-add-t4
+add-t4 c = search needs
+
+-- src/union.rt:32:20
+larger-requires : tie.Need-larger-requires
+larger-requires c κs = search needs
+
+-- src/union.rt:33:18
+larger-requires-2 : tie.Need-larger-requires-2
+larger-requires-2 c κs = search needs
+
+-- src/union.rt:34:15
+add-t7 : tie.Need-add-t7
+add-t7 c = search needs
+
+-- src/union.rt:34:15
+add-t8 : tie.Need-add-t8
+add-t8 c = search needs
+
+-- src/union.rt:25:1
+returns : tie.Need-returns
+returns c =
+    let r = c .before .before .before .larger in
+    let g = c .before .before .larger2 in
+    λ x y p q. rw (r .ensures, g .ensures, ← p, ← q) (union-counts x y)
+
+pub union-counts-spec : {M : Type 1} → statement M
+union-counts-spec =
+    tie.close (tie.spec add-t3 add-t4 larger-requires larger-requires-2 add-t7 add-t8 returns)

@@ -1,0 +1,146 @@
+use mathlib.Core.Path.{_∙_, _≡_, ap, sym}
+use Prim.Native.Nat.{_+_, _≤_}
+use native.Mathlib.Omega.{arith}
+use borrow.Author.Needs.{needs}
+use lib.ListN.{length}
+use Rattle.automata.specs.Automaton.{Automaton}
+use Rattle.automata.specs.Joins.{union}
+use Rattle.file_parts.specs.declared.Counts.{Counts}
+use Rattle.format.specs.Decoding.{automatonOf}
+use Rattle.format.specs.Encoding.{sizes}
+use Rattle.file_laws.proofs.ValidLaws.{valid-fits, valid-ranges, valid-sizes}
+use Rattle.joining.specs.Joining.{writtenOf}
+use Rattle.unions.proofs.unite.Statement.{statement}
+use Rattle.unions.proofs.UnionBytes.{union-counts, union-length}
+use Rattle.joining.proofs.FinalLaws.{valid-lengths}
+use Rattle.joining.proofs.AnswerLaws.{decided-written, written-bytes}
+use Rattle.unions.proofs.UnionFits.{union-fits, union-ops}
+use Rattle.unions.proofs.unite.Tie as tie
+use Rattle.unions.proofs.unite.Reads as reads
+use Rattle.unions.proofs.unite.Lts as lts
+use Rattle.joining.proofs.answer.arcs_size.Reads as arcs-size-reads
+use Rattle.joining.proofs.answer.decide.Reads as decide-reads
+use Rattle.unions.proofs.union_counts.Reads as union-counts-reads
+use Rattle.unions.proofs.write_union.Reads as write-union-reads
+use Rattle.writing.proofs.FileParts.{file-written}
+
+-- the automata, and the counts of their union
+abbrev joined : tie.Start → Automaton
+joined s = union (automatonOf (s .args .first .now)) (automatonOf (s .args .second .now))
+
+counts : (c : tie.After-union-counts) → sizes (joined (c .before .before .before .before)) ≡ c .union-counts .result
+counts c =
+    let s = c .before .before .before .before in
+    c .union-counts .ensures (automatonOf (s .args .first .now)) (automatonOf (s .args .second .now)) (valid-sizes _ _ (s .pre .first)) (valid-sizes _ _ (s .pre .second))
+
+-- the counts are small
+small : (c : tie.After-union-counts) → (c .union-counts .result .letters ≤ 64) × (c .union-counts .result .states ≤ 513)
+small c =
+    let s = c .before .before .before .before in
+    let ra = valid-ranges _ _ (s .pre .first) in
+    let rb = valid-ranges _ _ (s .pre .second) in
+    let la = valid-lengths _ _ (s .pre .first) in
+    let lb = valid-lengths _ _ (s .pre .second) in
+    let e = sym (counts c) ∙ union-counts (automatonOf (s .args .first .now)) (automatonOf (s .args .second .now)) in
+    (omega (arith, ap (λ (d : Counts). d .letters) e, ra .letters), omega (arith, ap (λ (d : Counts). d .states) e, ra .states, rb .states))
+
+-- the answer
+answered : (c : tie.After-decide) → let s = c .before .before .before .before .before .before .before .before .before in
+    c .decide .result ≡ writtenOf (joined s) (length (s .args .out .now))
+answered c =
+    let second = c .before in
+    let first = second .before in
+    let u = first .before .before .before in
+    let s = u .before .before .before .before in
+    let x = automatonOf (s .args .first .now) in
+    let y = automatonOf (s .args .second .now) in
+    let r = u .union-counts .result in
+    let size = 24 + r .letters + r .states + first .arcs-size .result + second .arcs-size2 .result in
+    let n = counts u in
+    c .decide .ensures
+    ∙ decided-written (union x y) (length (s .args .out .now)) r size (union-ops x y (valid-fits _ _ (s .pre .first)) (valid-fits _ _ (s .pre .second)) (s .pre .shared)) n
+    (omega (arith, union-length x y, ap (λ (d : Counts). d .letters) n, ap (λ (d : Counts). d .states) n, first .arcs-size .ensures .0, second .arcs-size2 .ensures .0))
+
+-- src/union.rt:66:9
+union-counts-requires : tie.Need-union-counts-requires
+union-counts-requires c κs =
+    let s = c .before .before .before in
+    (valid-ranges _ _ (s .pre .first), valid-ranges _ _ (s .pre .second))
+
+-- src/union.rt:67:16
+add-size : tie.Need-add-size
+add-size c = omega (arith, small (c .before))
+
+-- src/union.rt:67:16
+add-size-2 : tie.Need-add-size-2
+add-size-2 c = omega (arith, small (c .before .before))
+
+-- src/union.rt:67:44
+arcs-size-requires : tie.Need-arcs-size-requires
+arcs-size-requires c κs = search needs
+
+-- src/union.rt:67:16
+add-size-3 : tie.Need-add-size-3
+add-size-3 c = omega (arith, small (c .before .before .before), c .arcs-size .ensures .1)
+
+-- src/union.rt:67:66
+arcs-size-requires-2 : tie.Need-arcs-size-requires-2
+arcs-size-requires-2 c κs = search needs
+
+-- src/union.rt:67:16
+add-size-4 : tie.Need-add-size-4
+add-size-4 c = omega (arith, small (c .before .before .before .before), c .before .arcs-size .ensures .1, c .arcs-size2 .ensures .1)
+
+-- src/union.rt:68:9
+decide-requires : tie.Need-decide-requires
+decide-requires c κs = search needs
+
+enum-told : tie.Need-enum-told
+enum-told c = search needs
+
+-- src/union.rt:70:9
+enum-told-2 : tie.Need-enum-told-2
+enum-told-2 c = search needs
+
+-- src/union.rt:70:9
+returns : tie.Need-returns
+returns c = (answered (c .before .before), rw (c .enum-told2 .given .1))
+
+-- src/union.rt:72:5
+write-union-requires : tie.Need-write-union-requires
+write-union-requires c κs =
+    let d = c .before .before .before in
+    let u = d .before .before .before .before .before in
+    let s = u .before .before .before .before in
+    let w = written-bytes (joined s) (length (s .args .out .now)) (sym (answered d) ∙ c .before .enum-told .given .1) in
+    (s .pre, counts u, union-fits _ _ (valid-fits _ _ (s .pre .first)) (valid-fits _ _ (s .pre .second)) (s .pre .shared) (w .within), w .room)
+
+-- src/union.rt:61:1
+same-length : tie.Need-same-length
+same-length c = search needs
+
+-- src/union.rt:61:1
+returns-2 : tie.Need-returns-2
+returns-2 c =
+    let w = c .before .before in
+    let told = w .before .before in
+    (answered (told .before .before), rw (told .enum-told .given .1) (file-written (w .write-union .ensures)))
+
+pub unite-spec : {M : Type 1} → statement M
+unite-spec =
+    tie.close
+    (tie.spec
+    union-counts-requires
+    add-size
+    add-size-2
+    arcs-size-requires
+    add-size-3
+    arcs-size-requires-2
+    add-size-4
+    decide-requires
+    enum-told
+    enum-told-2
+    returns
+    write-union-requires
+    same-length
+    returns-2)
