@@ -1,4 +1,5 @@
-// file_arcs: reading the arcs of a file, each four bytes and its operations (document 01, 'The book file'). Tests are joined by `&`, which costs no branch: what they look at is there.
+// file_arcs: reading the arcs of a file, each four bytes and its operations (document 01, 'The book file'). Tests are joined by `&`,
+// which costs no branch: what they look at is there.
 ghost use mathlib.Core.Path.{_≡_};
 ghost use Prim.Native.Nat.{_+_, _*_, _<_, _≤_};
 ghost use lib.ListN.{length, getD, drop};

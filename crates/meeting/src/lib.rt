@@ -1,4 +1,4 @@
-// A passing arc meets a configuration: the configuration gets a number if it has none, and the plain arc is noted.
+// meeting: a passing arc meets a configuration, which gets a number if it has none, and the plain arc is noted.
 ghost use mathlib.Core.Path.{_≡_};
 ghost use mathlib.Core.Bool.{cond, _&&_, _||_};
 ghost use mathlib.Core.List.{List, [], _∷_, _++_};
