@@ -1,5 +1,5 @@
 -- Stepping: what the words of a block stand for once its rows are closed, and the live sets of all letters that a step leaves.
--- Where a block has its rows, its plain arcs and their starts is said in crate explore, specs/Map.antt.
+-- Where a block has its rows, its plain arcs and their starts is said in crate passing, specs/Map.antt.
 use mathlib.Core.Path.{_≡_}
 use mathlib.Core.Logic.{_⊎_}
 use mathlib.Core.Bool.{cond}

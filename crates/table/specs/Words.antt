@@ -25,7 +25,8 @@ use Rattle.stepping.specs.Stepping.{FromList, Held, Starts}
 abbrev pub letterSets : ℕ
 letterSets = 4480
 
--- x has k configurations, at most L; its block holds its closed rows and, where they fit, its p plain arcs
+-- x has k configurations, at most L; its block holds its closed rows and, where they fit, p arcs that
+-- tell its plain arcs
 pub record Built (x : Automaton) (L : ℕ) (w : List ℕ) (base k p : ℕ) : Type 0 where
   pub many : k ≡ length (configurations x L)
   pub ended : k ≤ L

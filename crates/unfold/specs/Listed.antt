@@ -1,5 +1,5 @@
 -- Listed: the arcs that the words of a block list, without registers, as the writers go through them. Where a block lists its plain
--- arcs is said in crate explore, specs/Map.antt, and where those of each configuration start and end in crate stepping, specs/Stepping.antt.
+-- arcs is said in crate passing, specs/Map.antt, and where those of each configuration start and end in crate stepping, specs/Stepping.antt.
 use mathlib.Core.List.{List, flatMap, map}
 use Prim.Native.Nat.{_%_, _-_, _/_, ℕ}
 use Rattle.automata.specs.Automaton.{Arc}

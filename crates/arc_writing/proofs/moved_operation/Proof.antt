@@ -10,23 +10,18 @@ use Rattle.file_parts.proofs.fields.operation_kind.Reads as operation-kind-read
 use Rattle.file_parts.proofs.fields.operation_register.Reads as operation-register-reads
 use Rattle.arc_writing.proofs.moved_register.Reads as moved-register-reads
 
--- src/lib.rt:50:35
 operation-register-requires : tie.Need-operation-register-requires
 operation-register-requires c κs = search needs
 
--- src/lib.rt:50:9
 moved-register-requires : tie.Need-moved-register-requires
 moved-register-requires c κs = (rw (c .operation-register .ensures) (omega arith), c .before .pre)
 
--- src/lib.rt:51:8
 operation-kind-requires : tie.Need-operation-kind-requires
 operation-kind-requires c κs = search needs
 
--- src/lib.rt:54:9
 add-result : tie.Need-add-result
 add-result c = search needs
 
--- src/lib.rt:46:1
 returns : tie.Need-returns
 returns c =
     let m = c .before .before .moved-register in
@@ -34,7 +29,6 @@ returns c =
     let a = c .before .before .before .before .args in
     (λ y. read-moved (a .k) (a .x) y (sym (c .before .operation-kind .ensures) ∙ c .if1 .taken) ∙ rw (m .ensures .0, o .ensures), omega (arith, m .ensures .1))
 
--- src/lib.rt:46:1
 returns-2 : tie.Need-returns-2
 returns-2 c =
     let m = c .before .before .moved-register in

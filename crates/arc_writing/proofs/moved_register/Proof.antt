@@ -7,15 +7,12 @@ use Rattle.arc_writing.proofs.moved_register.Tie as tie
 use Rattle.arc_writing.proofs.moved_register.Reads as reads
 use Rattle.arc_writing.proofs.moved_register.Lts as lts
 
--- src/lib.rt:42:35
 add-result : tie.Need-add-result
 add-result c = search needs
 
--- src/lib.rt:38:1
 returns : tie.Need-returns
 returns c = search needs
 
--- src/lib.rt:38:1
 returns-2 : tie.Need-returns-2
 returns-2 c = (sym (register-moved (c .before .args .k) (c .before .args .register) (c .if1 .left)), omega arith)
 

@@ -16,47 +16,36 @@ use Rattle.arc_writing.proofs.write_arc.Lts as lts
 use Rattle.arc_writing.proofs.write_fields.Reads as write-fields-reads
 use Rattle.arc_writing.proofs.write_ops.Reads as write-ops-reads
 
--- src/lib.rt:90:5
 write-fields-requires : tie.Need-write-fields-requires
 write-fields-requires c κs = search needs
 
--- src/lib.rt:91:24
 add-write-ops : tie.Need-add-write-ops
 add-write-ops c = search needs
 
--- src/lib.rt:91:15
 sub-write-ops : tie.Need-sub-write-ops
 sub-write-ops c = search needs
 
--- src/lib.rt:91:15
 part-write-ops-start : tie.Need-part-write-ops-start
 part-write-ops-start c = search needs
 
--- src/lib.rt:91:15
 part-write-ops-end : tie.Need-part-write-ops-end
 part-write-ops-end c = search needs
 
--- src/lib.rt:91:5
 write-ops-requires : tie.Need-write-ops-requires
 write-ops-requires c κs = search needs
 
--- src/lib.rt:92:5
 add-result : tie.Need-add-result
 add-result c = search needs
 
--- src/lib.rt:92:14
 mul-result : tie.Need-mul-result
 mul-result c = search needs
 
--- src/lib.rt:92:5
 add-result-2 : tie.Need-add-result-2
 add-result-2 c = search needs
 
--- src/lib.rt:86:1
 same-length : tie.Need-same-length
 same-length c = search needs
 
--- src/lib.rt:86:1
 returns : tie.Need-returns
 returns c =
     let ops = c .before .before in

@@ -17,50 +17,39 @@ Inv-loop out₀ p i₀ out i = (i ≤ p) × Left 0 (opsBytes (cleared 1 p)) out�
 abbrev μ-loop : tie.MeasureT-loop
 μ-loop out₀ p i₀ out i = p - i
 
--- src/lib.rt:78:5
 loop-holds : tie.Need-loop-holds Inv-loop μ-loop
 loop-holds c =
     let p = c .args .p in
     let e : p - 0 ≡ p = omega arith in
     (omega arith, rw e (left-all (omega (arith, c .pre .1, cleared-length p))))
 
--- src/lib.rt:79:23
 add-out : tie.Need-add-out Inv-loop μ-loop
 add-out c = omega arith
 
--- src/lib.rt:79:22
 cast-out : tie.Need-cast-out Inv-loop μ-loop
 cast-out c = omega arith
 
--- src/lib.rt:79:13
 mul-out : tie.Need-mul-out Inv-loop μ-loop
 mul-out c = omega arith
 
--- src/lib.rt:79:9
 slice-write-out : tie.Need-slice-write-out Inv-loop μ-loop
 slice-write-out c = omega (arith, c .before .loop .inv .1 .size)
 
--- src/lib.rt:80:13
 mul-out-2 : tie.Need-mul-out-2 Inv-loop μ-loop
 mul-out-2 c = omega arith
 
--- src/lib.rt:80:13
 add-out-2 : tie.Need-add-out-2 Inv-loop μ-loop
 add-out-2 c = omega arith
 
--- src/lib.rt:80:9
 slice-write-out-2 : tie.Need-slice-write-out-2 Inv-loop μ-loop
 slice-write-out-2 c = simp length-set (omega (arith, c .before .loop .inv .1 .size))
 
--- src/lib.rt:81:9
 add-i : tie.Need-add-i Inv-loop μ-loop
 add-i c = omega arith
 
--- src/lib.rt:78:5
 loop-less : tie.Need-loop-less Inv-loop μ-loop
 loop-less c = omega arith
 
--- src/lib.rt:78:5
 loop-again : tie.Need-loop-again Inv-loop μ-loop
 loop-again c =
     let l = c .before .loop in
@@ -69,11 +58,9 @@ loop-again c =
     let e : 2 * (l .i + 1) ≡ 2 * l .i + 1 + 1 = omega arith in
     (omega arith, rw e (left-byte 0 rest (left-byte (17 + l .i) (0 ∷ rest) (rw (cleared-at (a .p) (l .i) (omega arith)) at (l .inv .1)))))
 
--- src/lib.rt:73:1
 same-length : tie.Need-same-length Inv-loop μ-loop
 same-length c = c .before .loop .inv .1 .size
 
--- src/lib.rt:73:1
 returns : tie.Need-returns Inv-loop μ-loop
 returns c =
     let l = c .before .loop in

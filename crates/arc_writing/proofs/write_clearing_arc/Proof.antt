@@ -14,46 +14,36 @@ use Rattle.arc_writing.proofs.write_clearing.Reads as write-clearing-re
 use Rattle.arc_writing.proofs.write_fields.Reads as write-fields-reads
 use Rattle.arc_writing.proofs.write_plain_arc.Reads as write-plain-arc-reads
 
--- src/lib.rt:133:9
 write-plain-arc-requires : tie.Need-write-plain-arc-requires
 write-plain-arc-requires c κs =
     let s = c .before .before .before in
     let e = ap length (clearing-few (s .args .n) (omega arith)) in
     (s .pre .0, omega (arith, s .pre .2))
 
--- src/lib.rt:133:9
 same-length : tie.Need-same-length
 same-length c = search needs
 
--- src/lib.rt:133:9
 returns : tie.Need-returns
 returns c = rw (clearing-few (c .before .before .before .before .before .before .args .n) (omega arith)) (c .before .before .write-plain-arc .ensures)
 
--- src/lib.rt:135:13
 sub-p : tie.Need-sub-p
 sub-p c = search needs
 
--- src/lib.rt:136:5
 write-fields-requires : tie.Need-write-fields-requires
 write-fields-requires c κs = search needs
 
--- src/lib.rt:137:29
 add-write-clearing : tie.Need-add-write-clearing
 add-write-clearing c = search needs
 
--- src/lib.rt:137:20
 sub-write-clearing : tie.Need-sub-write-clearing
 sub-write-clearing c = search needs
 
--- src/lib.rt:137:20
 part-write-clearing-start : tie.Need-part-write-clearing-start
 part-write-clearing-start c = search needs
 
--- src/lib.rt:137:20
 part-write-clearing-end : tie.Need-part-write-clearing-end
 part-write-clearing-end c = search needs
 
--- src/lib.rt:137:5
 write-clearing-requires : tie.Need-write-clearing-requires
 write-clearing-requires c κs =
     let s = c .before .before .before .before .before .before .before in
@@ -61,23 +51,18 @@ write-clearing-requires c κs =
     let w = c .before .before .before .write-fields .ensures in
     (omega (arith, s .pre .1), simp (length-take, length-drop) (omega (arith, s .pre .2, appended-length w)))
 
--- src/lib.rt:138:5
 add-result : tie.Need-add-result
 add-result c = search needs
 
--- src/lib.rt:138:14
 mul-result : tie.Need-mul-result
 mul-result c = search needs
 
--- src/lib.rt:138:5
 add-result-2 : tie.Need-add-result-2
 add-result-2 c = search needs
 
--- src/lib.rt:128:1
 same-length-2 : tie.Need-same-length-2
 same-length-2 c = search needs
 
--- src/lib.rt:128:1
 returns-2 : tie.Need-returns-2
 returns-2 c =
     let ops = c .before .before in

@@ -9,59 +9,45 @@ use Rattle.arc_writing.proofs.write_fields.Tie as tie
 use Rattle.arc_writing.proofs.write_fields.Reads as reads
 use Rattle.arc_writing.proofs.write_fields.Lts as lts
 
--- src/lib.rt:27:15
 cast-out : tie.Need-cast-out
 cast-out c = search needs
 
--- src/lib.rt:27:5
 slice-write-out : tie.Need-slice-write-out
 slice-write-out c = search needs
 
--- src/lib.rt:28:19
 cast-out-2 : tie.Need-cast-out-2
 cast-out-2 c = search needs
 
--- src/lib.rt:28:9
 add-out : tie.Need-add-out
 add-out c = search needs
 
--- src/lib.rt:28:5
 slice-write-out-2 : tie.Need-slice-write-out-2
 slice-write-out-2 c = simp length-set (omega arith)
 
--- src/lib.rt:29:19
 cast-out-3 : tie.Need-cast-out-3
 cast-out-3 c = search needs
 
--- src/lib.rt:29:9
 add-out-2 : tie.Need-add-out-2
 add-out-2 c = search needs
 
--- src/lib.rt:29:5
 slice-write-out-3 : tie.Need-slice-write-out-3
 slice-write-out-3 c = simp length-set (omega arith)
 
--- src/lib.rt:30:19
 cast-out-4 : tie.Need-cast-out-4
 cast-out-4 c = search needs
 
--- src/lib.rt:30:9
 add-out-3 : tie.Need-add-out-3
 add-out-3 c = search needs
 
--- src/lib.rt:30:5
 slice-write-out-4 : tie.Need-slice-write-out-4
 slice-write-out-4 c = simp length-set (omega arith)
 
--- src/lib.rt:31:5
 add-result : tie.Need-add-result
 add-result c = search needs
 
--- src/lib.rt:23:1
 same-length : tie.Need-same-length
 same-length c = search needs
 
--- src/lib.rt:23:1
 returns : tie.Need-returns
 returns c =
     let a = c .before .before .before .args in

@@ -18,87 +18,66 @@ use Rattle.arc_writing.proofs.write_joint_arc.Lts as lts
 use Rattle.arc_writing.proofs.write_fields.Reads as write-fields-reads
 use Rattle.arc_writing.proofs.write_ops.Reads as write-ops-reads
 
--- src/lib.rt:110:30
 add-write-fields : tie.Need-add-write-fields
 add-write-fields c = search needs
 
--- src/lib.rt:110:5
 write-fields-requires : tie.Need-write-fields-requires
 write-fields-requires c κs = search needs
 
--- src/lib.rt:111:24
 add-write-ops : tie.Need-add-write-ops
 add-write-ops c = search needs
 
--- src/lib.rt:111:15
 sub-write-ops : tie.Need-sub-write-ops
 sub-write-ops c = search needs
 
--- src/lib.rt:111:15
 part-write-ops-start : tie.Need-part-write-ops-start
 part-write-ops-start c = search needs
 
--- src/lib.rt:111:15
 part-write-ops-end : tie.Need-part-write-ops-end
 part-write-ops-end c = search needs
 
--- src/lib.rt:111:5
 write-ops-requires : tie.Need-write-ops-requires
 write-ops-requires c κs = search needs
 
--- src/lib.rt:112:24
 add-write-ops-2 : tie.Need-add-write-ops-2
 add-write-ops-2 c = search needs
 
--- src/lib.rt:112:33
 mul-write-ops : tie.Need-mul-write-ops
 mul-write-ops c = search needs
 
--- src/lib.rt:112:24
 add-write-ops-3 : tie.Need-add-write-ops-3
 add-write-ops-3 c = search needs
 
--- src/lib.rt:112:15
 sub-write-ops-2 : tie.Need-sub-write-ops-2
 sub-write-ops-2 c = search needs
 
--- src/lib.rt:112:15
 part-write-ops-start-2 : tie.Need-part-write-ops-start-2
 part-write-ops-start-2 c = search needs
 
--- src/lib.rt:112:15
 part-write-ops-end-2 : tie.Need-part-write-ops-end-2
 part-write-ops-end-2 c = search needs
 
--- src/lib.rt:112:5
 write-ops-requires-2 : tie.Need-write-ops-requires-2
 write-ops-requires-2 c κs = search needs
 
--- src/lib.rt:113:5
 add-result : tie.Need-add-result
 add-result c = search needs
 
--- src/lib.rt:113:14
 mul-result : tie.Need-mul-result
 mul-result c = search needs
 
--- src/lib.rt:113:5
 add-result-2 : tie.Need-add-result-2
 add-result-2 c = search needs
 
--- src/lib.rt:113:22
 mul-result-2 : tie.Need-mul-result-2
 mul-result-2 c = search needs
 
--- src/lib.rt:113:5
 add-result-3 : tie.Need-add-result-3
 add-result-3 c = search needs
 
--- src/lib.rt:97:1
 same-length : tie.Need-same-length
 same-length c = search needs
 
--- src/lib.rt:97:1
 returns : tie.Need-returns
 returns c =
     let second = c .before .before in

@@ -21,70 +21,54 @@ Inv-loop out₀ ops p k i₀ out i = (i ≤ p) × Left 0 (opsBytes (map (movedOp
 abbrev μ-loop : tie.MeasureT-loop
 μ-loop out₀ ops p k i₀ out i = p - i
 
--- src/lib.rt:64:5
 loop-holds : tie.Need-loop-holds Inv-loop μ-loop
 loop-holds c =
     let s = c .before .before in
     let e : s .args .p - 0 ≡ s .args .p = omega arith in
     (omega arith, rw e (left-all (omega (arith, s .pre .2, moved-ops-length (s .args .k) (s .args .p) (s .args .ops .now)))))
 
--- src/lib.rt:65:47
 mul-byte : tie.Need-mul-byte Inv-loop μ-loop
 mul-byte c = omega arith
 
--- src/lib.rt:65:37
 byte-requires : tie.Need-byte-requires Inv-loop μ-loop
 byte-requires c κs = omega arith
 
--- src/lib.rt:65:13
 moved-operation-requires : tie.Need-moved-operation-requires Inv-loop μ-loop
 moved-operation-requires c κs = omega arith
 
--- src/lib.rt:66:22
 cast-out : tie.Need-cast-out Inv-loop μ-loop
 cast-out c = omega (arith, c .moved-operation .ensures .1)
 
--- src/lib.rt:66:13
 mul-out : tie.Need-mul-out Inv-loop μ-loop
 mul-out c = omega arith
 
--- src/lib.rt:66:9
 slice-write-out : tie.Need-slice-write-out Inv-loop μ-loop
 slice-write-out c = omega (arith, c .before .before .before .loop .inv .1 .size)
 
--- src/lib.rt:67:30
 mul-out-2 : tie.Need-mul-out-2 Inv-loop μ-loop
 mul-out-2 c = omega arith
 
--- src/lib.rt:67:30
 add-out : tie.Need-add-out Inv-loop μ-loop
 add-out c = omega arith
 
--- src/lib.rt:67:26
 shared-slice-read-out : tie.Need-shared-slice-read-out Inv-loop μ-loop
 shared-slice-read-out c = omega arith
 
--- src/lib.rt:67:13
 mul-out-3 : tie.Need-mul-out-3 Inv-loop μ-loop
 mul-out-3 c = omega arith
 
--- src/lib.rt:67:13
 add-out-2 : tie.Need-add-out-2 Inv-loop μ-loop
 add-out-2 c = omega arith
 
--- src/lib.rt:67:9
 slice-write-out-2 : tie.Need-slice-write-out-2 Inv-loop μ-loop
 slice-write-out-2 c = simp length-set (omega (arith, c .before .before .before .before .loop .inv .1 .size))
 
--- src/lib.rt:68:9
 add-i : tie.Need-add-i Inv-loop μ-loop
 add-i c = omega arith
 
--- src/lib.rt:64:5
 loop-less : tie.Need-loop-less Inv-loop μ-loop
 loop-less c = omega arith
 
--- src/lib.rt:64:5
 loop-again : tie.Need-loop-again Inv-loop μ-loop
 loop-again c =
     let m = c .before .moved-operation in
@@ -98,11 +82,9 @@ loop-again c =
     let now = rw (moved-ops-at (a .k) (a .p) (l .i) ops (omega arith) (m .result) (rw (← b .ensures .0) (m .ensures .0))) at (l .inv .1) in
     (omega arith, left-at e (left-byte y rest (left-byte (m .result) (y ∷ rest) now)))
 
--- src/lib.rt:59:1
 same-length : tie.Need-same-length Inv-loop μ-loop
 same-length c = c .before .loop .inv .1 .size
 
--- src/lib.rt:59:1
 returns : tie.Need-returns Inv-loop μ-loop
 returns c =
     let l = c .before .loop in

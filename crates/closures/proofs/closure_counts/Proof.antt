@@ -5,19 +5,15 @@ use Rattle.closures.proofs.closure_counts.Tie as tie
 use Rattle.closures.proofs.closure_counts.Reads as reads
 use Rattle.closures.proofs.closure_counts.Lts as lts
 
--- src/lib.rt:34:17
 add-t3 : tie.Need-add-t3
 add-t3 c = search needs
 
--- src/lib.rt:37:15
 add-t4 : tie.Need-add-t4
 add-t4 c = search needs
 
--- src/lib.rt:37:15
 add-t5 : tie.Need-add-t5
 add-t5 c = search needs
 
--- src/lib.rt:28:1
 returns : tie.Need-returns
 returns c = λ x p q. rw (← p, ← q) (closure-counts x)
 

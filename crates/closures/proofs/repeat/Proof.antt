@@ -70,60 +70,47 @@ answered c =
     ∙ decided-written (closure x) (length (s .args .out .now)) r size (closure-ops x (valid-fits _ _ (s .pre))) n
     (omega (arith, closure-length x, ap (λ (d : Counts). d .letters) n, ap (λ (d : Counts). d .states) n, arcs .arcs-size .ensures .0))
 
--- src/lib.rt:74:9
 count-finals-requires : tie.Need-count-finals-requires
 count-finals-requires c κs = search needs
 
--- src/lib.rt:75:9
 closure-counts-requires : tie.Need-closure-counts-requires
 closure-counts-requires c κs =
     let r = valid-ranges _ _ (c .before .before .before .pre) in
     (r, omega (arith, c .count-finals .ensures .1, r .states))
 
--- src/lib.rt:76:28
 return-size-requires : tie.Need-return-size-requires
 return-size-requires c κs = valid-ranges _ _ (c .before .before .before .before .pre) .registers
 
--- src/lib.rt:76:19
 mul-returns : tie.Need-mul-returns
 mul-returns c = omega (arith, small c)
 
--- src/lib.rt:77:16
 add-size : tie.Need-add-size
 add-size c = omega (arith, small (c .before))
 
--- src/lib.rt:77:16
 add-size-2 : tie.Need-add-size-2
 add-size-2 c = omega (arith, small (c .before .before))
 
--- src/lib.rt:77:44
 arcs-size-requires : tie.Need-arcs-size-requires
 arcs-size-requires c κs = search needs
 
--- src/lib.rt:77:16
 add-size-3 : tie.Need-add-size-3
 add-size-3 c = omega (arith, small (c .before .before .before), c .arcs-size .ensures .1)
 
--- src/lib.rt:77:16
 add-size-4 : tie.Need-add-size-4
 add-size-4 c = omega (arith, small (c .before .before .before), c .arcs-size .ensures .1)
 
--- src/lib.rt:78:9
 decide-requires : tie.Need-decide-requires
 decide-requires c κs = search needs
 
 enum-told : tie.Need-enum-told
 enum-told c = search needs
 
--- src/lib.rt:80:9
 enum-told-2 : tie.Need-enum-told-2
 enum-told-2 c = search needs
 
--- src/lib.rt:80:9
 returns : tie.Need-returns
 returns c = (answered (c .before .before), rw (c .enum-told2 .given .1))
 
--- src/lib.rt:82:5
 write-closure-requires : tie.Need-write-closure-requires
 write-closure-requires c κs =
     let d = c .before .before .before in
@@ -132,11 +119,9 @@ write-closure-requires c κs =
     let w = written-bytes (joined s) (length (s .args .out .now)) (sym (answered d) ∙ c .before .enum-told .given .1) in
     (s .pre, counts u, closure-fits _ (valid-fits _ _ (s .pre)) (w .within), w .room)
 
--- src/lib.rt:69:1
 same-length : tie.Need-same-length
 same-length c = search needs
 
--- src/lib.rt:69:1
 returns-2 : tie.Need-returns-2
 returns-2 c =
     let w = c .before .before in

@@ -9,19 +9,15 @@ use Rattle.closures.proofs.return_size.Tie as tie
 use Rattle.closures.proofs.return_size.Reads as reads
 use Rattle.closures.proofs.return_size.Lts as lts
 
--- src/lib.rt:46:31
 mul-result : tie.Need-mul-result
 mul-result c = search needs
 
--- src/lib.rt:46:27
 add-result : tie.Need-add-result
 add-result c = search needs
 
--- src/lib.rt:42:1
 returns : tie.Need-returns
 returns c = (omega (arith, ap length (clearing-few (c .before .args .n) (c .if1 .taken))), omega arith)
 
--- src/lib.rt:42:1
 returns-2 : tie.Need-returns-2
 returns-2 c =
     let n = c .before .args .n in

@@ -31,20 +31,17 @@ parts s = closure-parts (automatonOf (s .args .file .now)) (s .pre .1)
 room : (s : tie.Start) → 13 + s .args .a .letters + s .args .a .states + length (arcsBytes (closure (automatonOf (s .args .file .now)) .arcs)) ≤ length (s .args .out .now)
 room s = omega (arith, simp length-append at (rw (parts s) at (s .pre .3)), header-length (s .args .c), valid-lengths _ _ (s .pre .0))
 
--- src/lib.rt:62:9
 write-front-requires : tie.Need-write-front-requires
 write-front-requires c κs =
     let s = c .before .before .before in
     (subst (λ (d : Counts). Ranges d) (s .pre .1) (s .pre .2 .ranges), s .pre .0, omega (arith, room s))
 
--- src/lib.rt:63:9
 write-byte-requires : tie.Need-write-byte-requires
 write-byte-requires c κs =
     let front = c .before .before .before in
     let s = front .before .before .before .before in
     omega (arith, room s, front-ends _ _ (s .pre .0) (s .args .c) (front .write-front .ensures))
 
--- src/lib.rt:64:9
 write-flags-requires : tie.Need-write-flags-requires
 write-flags-requires c κs =
     let byte = c .before .before .before in
@@ -52,7 +49,6 @@ write-flags-requires c κs =
     let s = front .before .before .before .before in
     (s .pre .0, omega (arith, room s, front-ends _ _ (s .pre .0) (s .args .c) (front .write-front .ensures), appended-ends (byte .write-byte .ensures)))
 
--- src/lib.rt:65:5
 write-closure-arcs-requires : tie.Need-write-closure-arcs-requires
 write-closure-arcs-requires c κs =
     let flags = c .before .before .before in
@@ -64,11 +60,9 @@ write-closure-arcs-requires c κs =
       omega (arith, room s, front-ends _ _ (s .pre .0) (s .args .c) (front .write-front .ensures), appended-ends (byte .write-byte .ensures), flags-end _ _ (s .pre .0) (flags .write-flags .ensures)),
     )
 
--- src/lib.rt:58:1
 same-length : tie.Need-same-length
 same-length c = search needs
 
--- src/lib.rt:58:1
 returns : tie.Need-returns
 returns c =
     let arcs = c .before .before in

@@ -26,20 +26,17 @@ abbrev parts : (s : tie.Start) → let x = automatonOf (s .args .file .now) in
     arcsBytes (closure x .arcs) ≡ arcBytes (emptyMove 0 1) ++ (arcsBytes (map (movedArc 1 0) (x .arcs)) ++ arcsBytes (map (returning 1 1 (s .args .a .registers)) (finalStates 0 (x .finals))))
 parts s = closure-arc-parts (automatonOf (s .args .file .now)) (ap (λ (d : Counts). d .registers) (valid-sizes _ _ (s .pre .0)))
 
--- src/lib.rt:53:9
 write-entry-requires : tie.Need-write-entry-requires
 write-entry-requires c κs =
     let s = c .before .before .before in
     (omega arith, omega (arith, simp length-append at (rw (parts s) at (s .pre .2)), entry-length 1))
 
--- src/lib.rt:54:9
 write-moved-arcs-requires : tie.Need-write-moved-arcs-requires
 write-moved-arcs-requires c κs =
     let entry = c .before .before .before in
     let s = entry .before .before .before .before in
     (s .pre .0, s .pre .1, omega arith, omega (arith, simp length-append at (rw (parts s) at (s .pre .2)), appended-ends (entry .write-entry .ensures)))
 
--- src/lib.rt:55:5
 write-final-arcs-requires : tie.Need-write-final-arcs-requires
 write-final-arcs-requires c κs =
     let moved = c .before .before .before in
@@ -53,11 +50,9 @@ write-final-arcs-requires c κs =
       omega (arith, simp length-append at (rw (parts s) at (s .pre .2)), appended-ends (entry .write-entry .ensures), appended-ends (moved .write-moved-arcs .ensures)),
     )
 
--- src/lib.rt:49:1
 same-length : tie.Need-same-length
 same-length c = search needs
 
--- src/lib.rt:49:1
 returns : tie.Need-returns
 returns c =
     let final = c .before .before in

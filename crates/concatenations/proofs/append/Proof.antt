@@ -68,64 +68,50 @@ answered c =
     ∙ decided-written (concatenation x y) (length (s .args .out .now)) r size (concatenation-ops x y (valid-fits _ _ (s .pre .first)) (valid-fits _ _ (s .pre .second)) (s .pre .shared)) n
     (omega (arith, concatenation-length x y, ap (λ (d : Counts). d .letters) n, ap (λ (d : Counts). d .states) n, f .ensures .0, first .arcs-size .ensures .0, second .arcs-size2 .ensures .0))
 
--- src/lib.rt:80:9
 count-finals-requires : tie.Need-count-finals-requires
 count-finals-requires c κs = search needs
 
--- src/lib.rt:81:9
 concatenation-counts-requires : tie.Need-concatenation-counts-requires
 concatenation-counts-requires c κs =
     let s = c .before .before .before .before in
     (valid-ranges _ _ (s .pre .first), few-finals c, valid-ranges _ _ (s .pre .second))
 
--- src/lib.rt:82:17
 mul-moves : tie.Need-mul-moves
 mul-moves c = omega (arith, small c)
 
--- src/lib.rt:83:16
 add-size : tie.Need-add-size
 add-size c = omega (arith, small (c .before))
 
--- src/lib.rt:83:16
 add-size-2 : tie.Need-add-size-2
 add-size-2 c = omega (arith, small (c .before .before))
 
--- src/lib.rt:83:44
 arcs-size-requires : tie.Need-arcs-size-requires
 arcs-size-requires c κs = search needs
 
--- src/lib.rt:83:16
 add-size-3 : tie.Need-add-size-3
 add-size-3 c = omega (arith, small (c .before .before .before), c .arcs-size .ensures .1)
 
--- src/lib.rt:83:16
 add-size-4 : tie.Need-add-size-4
 add-size-4 c = omega (arith, small (c .before .before .before), c .arcs-size .ensures .1)
 
--- src/lib.rt:83:74
 arcs-size-requires-2 : tie.Need-arcs-size-requires-2
 arcs-size-requires-2 c κs = search needs
 
--- src/lib.rt:83:16
 add-size-5 : tie.Need-add-size-5
 add-size-5 c = omega (arith, small (c .before .before .before .before), c .before .arcs-size .ensures .1, c .arcs-size2 .ensures .1)
 
--- src/lib.rt:84:9
 decide-requires : tie.Need-decide-requires
 decide-requires c κs = search needs
 
 enum-told : tie.Need-enum-told
 enum-told c = search needs
 
--- src/lib.rt:86:9
 enum-told-2 : tie.Need-enum-told-2
 enum-told-2 c = search needs
 
--- src/lib.rt:86:9
 returns : tie.Need-returns
 returns c = (answered (c .before .before), rw (c .enum-told2 .given .1))
 
--- src/lib.rt:88:5
 write-concatenation-requires : tie.Need-write-concatenation-requires
 write-concatenation-requires c κs =
     let d = c .before .before .before in
@@ -134,11 +120,9 @@ write-concatenation-requires c κs =
     let w = written-bytes (joined s) (length (s .args .out .now)) (sym (answered d) ∙ c .before .enum-told .given .1) in
     (s .pre, counts u, concatenation-fits _ _ (valid-fits _ _ (s .pre .first)) (valid-fits _ _ (s .pre .second)) (s .pre .shared) (w .within), w .room)
 
--- src/lib.rt:75:1
 same-length : tie.Need-same-length
 same-length c = search needs
 
--- src/lib.rt:75:1
 returns-2 : tie.Need-returns-2
 returns-2 c =
     let w = c .before .before in

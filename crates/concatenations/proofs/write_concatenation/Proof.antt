@@ -45,20 +45,17 @@ room s =
 zeros-end : (n : ℕ) {at next : ℕ} {old out : List ℕ} → Appended at (replicate n 0) old out next → (next ≡ at + n) × (length out ≡ length old)
 zeros-end n w = (omega (arith, w .behind, length-replicate {A = ℕ} n 0), appended-length w)
 
--- src/lib.rt:68:9
 write-front-requires : tie.Need-write-front-requires
 write-front-requires c κs =
     let s = c .before .before .before .before in
     (subst (λ (d : Counts). Ranges d) (s .pre .1) (s .pre .2 .ranges), s .pre .0 .first, omega (arith, room s))
 
--- src/lib.rt:69:9
 write-zeros-requires : tie.Need-write-zeros-requires
 write-zeros-requires c κs =
     let front = c .before .before .before in
     let s = front .before .before .before .before .before in
     omega (arith, room s, front-ends _ _ (s .pre .0 .first) (s .args .c) (front .write-front .ensures))
 
--- src/lib.rt:70:9
 write-flags-requires : tie.Need-write-flags-requires
 write-flags-requires c κs =
     let zeros = c .before .before .before in
@@ -68,7 +65,6 @@ write-flags-requires c κs =
       omega (arith, room s, front-ends _ _ (s .pre .0 .first) (s .args .c) (front .write-front .ensures), zeros-end (s .args .a .states) (zeros .write-zeros .ensures)),
     )
 
--- src/lib.rt:71:5
 write-concatenation-arcs-requires : tie.Need-write-concatenation-arcs-requires
 write-concatenation-arcs-requires c κs =
     let flags = c .before .before .before in
@@ -87,11 +83,9 @@ write-concatenation-arcs-requires c κs =
       ),
     )
 
--- src/lib.rt:57:1
 same-length : tie.Need-same-length
 same-length c = search needs
 
--- src/lib.rt:57:1
 returns : tie.Need-returns
 returns c =
     let arcs = c .before .before in

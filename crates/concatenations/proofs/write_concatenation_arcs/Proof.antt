@@ -33,17 +33,14 @@ room : (s : tie.Start) → let x = automatonOf (s .args .first .now) in let y = 
     s .args .at + length (arcsBytes (x .arcs)) + 6 * length (finalStates 0 (x .finals)) + length (arcsBytes (y .arcs)) ≤ length (s .args .out .now)
 room s = omega (arith, s .pre .2, concatenation-arcs-length (automatonOf (s .args .first .now)) (automatonOf (s .args .second .now)))
 
--- src/lib.rt:51:17
 sub-shift : tie.Need-sub-shift
 sub-shift c = omega (arith, valid-ranges _ _ (c .before .before .before .before .pre .0 .first) .some-register)
 
--- src/lib.rt:52:9
 write-moved-arcs-requires : tie.Need-write-moved-arcs-requires
 write-moved-arcs-requires c κs =
     let s = c .before .before .before .before .before in
     (search needs, omega (arith, s .pre .1), omega (arith, valid-ranges _ _ (s .pre .0 .first) .registers), simp arcs-moved-length (omega (arith, room s)))
 
--- src/lib.rt:53:9
 write-final-arcs-requires : tie.Need-write-final-arcs-requires
 write-final-arcs-requires c κs =
     let left = c .before .before .before in
@@ -55,7 +52,6 @@ write-final-arcs-requires c κs =
       simp moves-length (omega (arith, room s, simp arcs-moved-length at (appended-ends (left .write-moved-arcs .ensures)))),
     )
 
--- src/lib.rt:54:5
 write-moved-arcs-requires-2 : tie.Need-write-moved-arcs-requires-2
 write-moved-arcs-requires-2 c κs =
     let moves = c .before .before .before in
@@ -68,11 +64,9 @@ write-moved-arcs-requires-2 c κs =
           (omega (arith, room s, simp arcs-moved-length at (appended-ends (left .write-moved-arcs .ensures)), simp moves-length at (appended-ends (moves .write-final-arcs .ensures)))),
     )
 
--- src/lib.rt:40:1
 same-length : tie.Need-same-length
 same-length c = search needs
 
--- src/lib.rt:40:1
 returns : tie.Need-returns
 returns c =
     let right = c .before .before in

@@ -67,17 +67,14 @@ answered c =
     ∙ decided-written (joined s) (length (s .args .out .now)) r (12 + r .letters + r .states + count .count-arcs .result .size) (none-many (joined s .arcs) (sym (t .many) ∙ u .before .if2 .left)) n
     (omega (arith, bytes-length (joined s), ap (λ (d : Counts). d .letters) n, ap (λ (d : Counts). d .states) n, t .size))
 
--- src/lib.rt:100:18
 product-counts-requires : tie.Need-product-counts-requires
 product-counts-requires c κs =
     let v = c .before .before .before .pre in
     (valid-ranges _ _ (v .first), valid-ranges _ _ (v .second))
 
--- src/lib.rt:100:8
 is-beyond-requires : tie.Need-is-beyond-requires
 is-beyond-requires c κs = search needs
 
--- src/lib.rt:101:9
 returns : tie.Need-returns
 returns c =
     let n = c .before .before in
@@ -85,51 +82,41 @@ returns c =
     let e = n .product-counts .ensures (automatonOf (s .args .first .now)) (automatonOf (s .args .second .now)) (valid-sizes _ _ (s .pre .first)) (valid-sizes _ _ (s .pre .second)) in
     (sym (large-refused (joined s) (length (s .args .out .now)) (ap manyCounts e ∙ sym (c .before .is-beyond .ensures) ∙ c .if1 .taken)), refl)
 
--- src/lib.rt:103:9
 count-arcs-requires : tie.Need-count-arcs-requires
 count-arcs-requires c κs = search needs
 
--- src/lib.rt:105:9
 returns-2 : tie.Need-returns-2
 returns-2 c =
     let count = c .before in
     let s = begun count in
     (sym (many-refused (joined s) (length (s .args .out .now)) (sym (count .count-arcs .ensures .0 .many) ∙ c .if2 .taken)), refl)
 
--- src/lib.rt:107:9
 product-counts-requires-2 : tie.Need-product-counts-requires-2
 product-counts-requires-2 c κs =
     let v = begun (c .before) .pre in
     (valid-ranges _ _ (v .first), valid-ranges _ _ (v .second))
 
--- src/lib.rt:108:16
 add-size : tie.Need-add-size
 add-size c = omega (arith, small (c .before))
 
--- src/lib.rt:108:16
 add-size-2 : tie.Need-add-size-2
 add-size-2 c = omega (arith, small (c .before .before))
 
--- src/lib.rt:108:16
 add-size-3 : tie.Need-add-size-3
 add-size-3 c = omega (arith, small (c .before .before .before))
 
--- src/lib.rt:109:9
 decide-requires : tie.Need-decide-requires
 decide-requires c κs = search needs
 
 enum-told : tie.Need-enum-told
 enum-told c = search needs
 
--- src/lib.rt:111:9
 enum-told-2 : tie.Need-enum-told-2
 enum-told-2 c = search needs
 
--- src/lib.rt:111:9
 returns-3 : tie.Need-returns-3
 returns-3 c = (answered (c .before .before), rw (c .enum-told2 .given .1))
 
--- src/lib.rt:113:5
 write-product-requires : tie.Need-write-product-requires
 write-product-requires c κs =
     let d = c .before .before .before in
@@ -139,11 +126,9 @@ write-product-requires c κs =
     let w = written-bytes (joined s) (length (s .args .out .now)) (sym (answered d) ∙ c .before .enum-told .given .1) in
     (v, counts u, intersection-fits _ _ (valid-fits _ _ (v .first)) (valid-fits _ _ (v .second)) (v .shared) (w .within), w .room)
 
--- src/lib.rt:95:1
 same-length : tie.Need-same-length
 same-length c = search needs
 
--- src/lib.rt:95:1
 returns-4 : tie.Need-returns-4
 returns-4 c =
     let w = c .before .before in

@@ -10,25 +10,20 @@ use Rattle.intersection.proofs.product_counts.Reads as reads
 use Rattle.intersection.proofs.product_counts.Lts as lts
 use Rattle.joining.proofs.answer.larger.Reads as larger-reads
 
--- src/lib.rt:39:17
 mul-t4 : tie.Need-mul-t4
 mul-t4 c =
     let s = c .before .before in
     omega (arith, mul-le-mul-left (s .args .a .states) (s .pre .1 .states), s .pre .0 .states)
 
--- src/lib.rt:40:20
 add-t5 : tie.Need-add-t5
 add-t5 c = search needs
 
--- src/lib.rt:40:20
 sub-t6 : tie.Need-sub-t6
 sub-t6 c = search needs
 
--- src/lib.rt:41:18
 larger-requires : tie.Need-larger-requires
 larger-requires c κs = search needs
 
--- src/lib.rt:33:1
 returns : tie.Need-returns
 returns c = λ x y p q. rw (c .larger .ensures, ← p, ← q) (ap (withArcs (c .before .before .before .before .before .args .arcs)) (intersection-counts x y))
 

@@ -36,13 +36,11 @@ room : (s : tie.Start) → let x = automatonOf (s .args .first .now) in let y = 
     12 + s .args .a .letters + s .args .a .states * s .args .b .states + length (arcsBytes (intersection x y .arcs)) ≤ length (s .args .out .now)
 room s = omega (arith, simp length-append at (rw (parts s) at (s .pre .3)), header-length (s .args .c), valid-lengths _ _ (s .pre .0 .first) .0, flag-count s)
 
--- src/lib.rt:86:9
 write-front-requires : tie.Need-write-front-requires
 write-front-requires c κs =
     let s = c .before .before .before .before in
     (subst (λ (d : Counts). Ranges d) (s .pre .1) (s .pre .2 .ranges), s .pre .0 .first, omega (arith, room s))
 
--- src/lib.rt:87:9
 write-both-flags-requires : tie.Need-write-both-flags-requires
 write-both-flags-requires c κs =
     let front = c .before .before .before in
@@ -50,7 +48,6 @@ write-both-flags-requires c κs =
     let v = s .pre .0 in
     (v .first, v .second, omega (arith, room s, front-ends _ _ (v .first) (s .args .c) (front .write-front .ensures)))
 
--- src/lib.rt:88:5
 write-product-arcs-requires : tie.Need-write-product-arcs-requires
 write-product-arcs-requires c κs =
     let flags = c .before .before .before in
@@ -62,11 +59,9 @@ write-product-arcs-requires c κs =
     let pairs : length (intersection x y .finals) ≡ s .args .a .states * s .args .b .states = ap (λ (c : Counts). c .states) (intersection-counts x y) ∙ ap₂ (λ (m n : ℕ). m * n) (valid-lengths _ _ (v .first) .1) (valid-lengths _ _ (v .second) .1) in
     (v, omega (arith, s .pre .2 .ranges .states), omega (arith, room s, flag-count s, front-ends _ _ (v .first) (s .args .c) (front .write-front .ensures), appended-ends (flags .write-both-flags .ensures)))
 
--- src/lib.rt:75:1
 same-length : tie.Need-same-length
 same-length c = search needs
 
--- src/lib.rt:75:1
 returns : tie.Need-returns
 returns c =
     let arcs = c .before .before in

@@ -30,18 +30,15 @@ parts s =
     let v = s .pre .0 in
     arc-parts (automatonOf (s .args .first .now)) (automatonOf (s .args .second .now)) (valid-lengths _ _ (v .first) .1) (valid-lengths _ _ (v .second) .1) (ap (λ (c : Counts). c .registers - 1) (valid-sizes _ _ (v .first)))
 
--- src/lib.rt:57:17
 sub-shift : tie.Need-sub-shift
 sub-shift c = omega (arith, valid-ranges _ _ (c .before .before .before .before .pre .0 .first) .some-register)
 
--- src/lib.rt:70:9
 write-joint-arcs-requires : tie.Need-write-joint-arcs-requires
 write-joint-arcs-requires c κs =
     let s = c .before .before .before .before .before in
     let v = s .pre .0 in
     (v .first, v .second, s .pre .1, omega (arith, valid-ranges _ _ (v .first) .registers), omega (arith, simp length-append at (rw (parts s) at (s .pre .2))))
 
--- src/lib.rt:71:9
 write-empty-moves-requires : tie.Need-write-empty-moves-requires
 write-empty-moves-requires c κs =
     let joint = c .before .before .before in
@@ -53,7 +50,6 @@ write-empty-moves-requires c κs =
       omega (arith, simp length-append at (rw (parts s) at (s .pre .2)), appended-ends (joint .write-joint-arcs .ensures)),
     )
 
--- src/lib.rt:72:5
 write-empty-moves-requires-2 : tie.Need-write-empty-moves-requires-2
 write-empty-moves-requires-2 c κs =
     let left = c .before .before .before in
@@ -66,11 +62,9 @@ write-empty-moves-requires-2 c κs =
       omega (arith, simp length-append at (rw (parts s) at (s .pre .2)), appended-ends (joint .write-joint-arcs .ensures), appended-ends (left .write-empty-moves .ensures)),
     )
 
--- src/lib.rt:46:1
 same-length : tie.Need-same-length
 same-length c = search needs
 
--- src/lib.rt:46:1
 returns : tie.Need-returns
 returns c =
     let right = c .before .before in

@@ -12,37 +12,29 @@ use Rattle.file_parts.proofs.Reading.number.Reads as number-reads
 use Rattle.format.proofs.read.Reads as read-reads
 use Rattle.closures.proofs.repeat.Reads as repeat-reads
 
--- src/lib.rt:46:9
 read-requires : tie.Need-read-requires
 read-requires c κs = search needs
 
--- src/lib.rt:47:24
 enum-known-reading : tie.Need-enum-known-reading
 enum-known-reading c = search needs
 
--- src/lib.rt:48:33
 enum-told : tie.Need-enum-told
 enum-told c = search needs
 
--- src/lib.rt:48:33
 number-requires : tie.Need-number-requires
 number-requires c κs = search needs
 
--- src/lib.rt:48:9
 returns : tie.Need-returns
 returns c =
     let g = c .before .enum-told .given in
     (ap (λ (n : ℕ). Refused n 1) (c .number .ensures ∙ ap numberOf (g .1)) ∙ sym (closed-fault _ _ (sym (c .before .before .before .read .ensures) ∙ g .1)), refl)
 
--- src/lib.rt:50:5
 repeat-requires : tie.Need-repeat-requires
 repeat-requires c κs = sym (c .before .before .before .before .read .ensures) ∙ c .before .before .reading .given .1
 
--- src/lib.rt:42:1
 same-length : tie.Need-same-length
 same-length c = search needs
 
--- src/lib.rt:42:1
 returns-2 : tie.Need-returns-2
 returns-2 c =
     let u = c .before .before in

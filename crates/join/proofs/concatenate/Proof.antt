@@ -9,31 +9,24 @@ use Rattle.join.proofs.concatenate.Lts as lts
 use Rattle.joining.proofs.files.read_files.Reads as read-files-reads
 use Rattle.concatenations.proofs.append.Reads as append-reads
 
--- src/lib.rt:44:9
 read-files-requires : tie.Need-read-files-requires
 read-files-requires c κs = search needs
 
--- src/lib.rt:46:22
 enum-known-files : tie.Need-enum-known-files
 enum-known-files c = search needs
 
--- src/lib.rt:47:21
 enum-known-files-2 : tie.Need-enum-known-files-2
 enum-known-files-2 c = search needs
 
--- src/lib.rt:47:30
 append-requires : tie.Need-append-requires
 append-requires c κs = both-joinable _ _ (sym (c .before .before .before .before .read-files .ensures) ∙ c .before .before .files2 .given .1)
 
--- src/lib.rt:40:1
 returns : tie.Need-returns
 returns c = (sym (joined-fault concatenation _ _ _ (sym (c .before .before .before .read-files .ensures) ∙ c .before .files .given .1)), refl)
 
--- src/lib.rt:40:1
 same-length : tie.Need-same-length
 same-length c = search needs
 
--- src/lib.rt:40:1
 returns-2 : tie.Need-returns-2
 returns-2 c =
     let u = c .before .before in

@@ -1,4 +1,4 @@
--- `explore::meeting::add_configuration` meets its contract: the word joins the table and its chain, then row `known` holds `known` alone.
+-- `meeting::add_configuration` meets its contract: the word joins the table and its chain, then row `known` holds `known` alone.
 use borrow.Author.Needs.{needs}
 use Rattle.meeting.proofs.Fields.{row-alone}
 use Rattle.meeting.proofs.Tabling.{new-kept, configured-new, tabled-new}

@@ -1,4 +1,4 @@
--- `explore::meeting::arrive` meets its contract: the target state stands above the registers.
+-- `meeting::arrive` meets its contract: the target state stands above the registers.
 use borrow.Author.Needs.{needs}
 use mathlib.Core.Path.{_≡_}
 use native.Mathlib.Omega.{arith}

@@ -1,4 +1,4 @@
--- `explore::meeting::list_arc` meets its contract: one field is written, or there is no room and nothing is.
+-- `meeting::list_arc` meets its contract: one field is written, or there is no room and nothing is.
 use borrow.Author.Needs.{needs}
 use borrow.Author.Tests.{le-ltb, lt-ltb}
 use native.Mathlib.Omega.{arith}

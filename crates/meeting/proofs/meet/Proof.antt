@@ -1,4 +1,4 @@
--- `explore::meeting::meet` meets its contract: the configuration has a number, or there are too many, or it gets the next one; then the arc is noted.
+-- `meeting::meet` meets its contract: the configuration has a number, or there are too many, or it gets the next one; then the arc is noted.
 use borrow.Author.Needs.{needs}
 use native.Mathlib.Omega.{arith}
 use Prim.Native.Nat.{_+_}

@@ -1,4 +1,4 @@
--- `explore::meeting::note_arc` meets its contract: the empty move is noted, then the plain arc listed.
+-- `meeting::note_arc` meets its contract: the empty move is noted, then the plain arc listed.
 use borrow.Author.Needs.{needs}
 use Rattle.meeting.proofs.Tabling.{arc-kept, tabled-arc}
 use Rattle.meeting.proofs.note_arc.Statement.{statement}

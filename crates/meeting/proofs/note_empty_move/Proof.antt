@@ -1,4 +1,4 @@
--- `explore::meeting::note_empty_move` meets its contract: row c is written with the target, or nothing is.
+-- `meeting::note_empty_move` meets its contract: row c is written with the target, or nothing is.
 use borrow.Author.Needs.{needs}
 use borrow.Author.Tests.{eq-eqb, ne-eqb}
 use native.Mathlib.Omega.{arith}

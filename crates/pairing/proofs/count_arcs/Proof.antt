@@ -18,35 +18,27 @@ use Rattle.pairing.proofs.count_arcs.Lts as lts
 use Rattle.pairing.proofs.count_empty.Reads as count-empty-reads
 use Rattle.pairing.proofs.count_lettered.Reads as count-lettered-reads
 
--- src/lib.rt:101:9
 count-lettered-requires : tie.Need-count-lettered-requires
 count-lettered-requires c κs = search needs
 
--- src/lib.rt:102:9
 count-empty-requires : tie.Need-count-empty-requires
 count-empty-requires c κs = (c .before .before .before .pre .0, valid-ranges _ _ (c .before .before .before .pre .1) .states)
 
--- src/lib.rt:103:9
 count-empty-requires-2 : tie.Need-count-empty-requires-2
 count-empty-requires-2 c κs = (c .before .before .before .before .pre .1, valid-ranges _ _ (c .before .before .before .before .pre .0) .states)
 
--- src/lib.rt:105:15
 add-t8 : tie.Need-add-t8
 add-t8 c = search needs
 
--- src/lib.rt:105:15
 add-t9 : tie.Need-add-t9
 add-t9 c = search needs
 
--- src/lib.rt:106:15
 add-t10 : tie.Need-add-t10
 add-t10 c = search needs
 
--- src/lib.rt:106:15
 add-t11 : tie.Need-add-t11
 add-t11 c = search needs
 
--- src/lib.rt:97:1
 returns : tie.Need-returns
 returns c =
     let right = c .before .before .before .before .before .before .before .before .before in

@@ -43,17 +43,14 @@ bounds c =
     let h : c .arc-size .result ≤ 515 = omega (arith, c .arc-size .ensures .1) in
     (s .pre .1, omega (arith, mul-le-mul-left (s .args .n) h, s .pre .1), l .loop .inv .2, l .loop .inv .3, omega (arith, c .before .if1 .taken, valid-ranges _ _ (s .pre .0) .arcs))
 
--- src/lib.rt:78:20
 add-from : tie.Need-add-from Inv-loop μ-loop
 add-from c = omega (arith, valid-ranges _ _ (c .before .before .pre .0) .letters)
 
--- src/lib.rt:78:20
 add-from-2 : tie.Need-add-from-2 Inv-loop μ-loop
 add-from-2 c =
     let r = valid-ranges _ _ (c .before .before .before .pre .0) in
     omega (arith, r .letters, r .states)
 
--- src/lib.rt:80:5
 loop-holds : tie.Need-loop-holds Inv-loop μ-loop
 loop-holds c =
     let s = c .before .before .before in
@@ -61,43 +58,33 @@ loop-holds c =
     let e : m - 0 ≡ m = omega arith in
     (omega arith, rw e (walk-start _ _ (s .pre .0)), omega arith, omega arith, λ f k. rw e (uncounted-all _))
 
--- src/lib.rt:81:13
 arc-size-requires : tie.Need-arc-size-requires Inv-loop μ-loop
 arc-size-requires c κs = omega (arith, here c .whole)
 
--- src/lib.rt:82:23
 add-byte : tie.Need-add-byte Inv-loop μ-loop
 add-byte c = omega (arith, here (c .before) .whole)
 
--- src/lib.rt:82:12
 byte-requires : tie.Need-byte-requires Inv-loop μ-loop
 byte-requires c κs = omega (arith, here (c .before) .whole)
 
--- src/lib.rt:83:13
 add-arcs : tie.Need-add-arcs Inv-loop μ-loop
 add-arcs c = omega (arith, bounds (c .before .before))
 
--- src/lib.rt:84:21
 mul-size : tie.Need-mul-size Inv-loop μ-loop
 mul-size c = omega (arith, bounds (c .before .before))
 
--- src/lib.rt:84:13
 add-size : tie.Need-add-size Inv-loop μ-loop
 add-size c = omega (arith, bounds (c .before .before))
 
--- src/lib.rt:86:9
 add-from-3 : tie.Need-add-from-3 Inv-loop μ-loop
 add-from-3 c = omega (arith, here (c .before .before .before) .whole, c .before .before .arc-size .ensures .0)
 
--- src/lib.rt:87:9
 add-i : tie.Need-add-i Inv-loop μ-loop
 add-i c = omega arith
 
--- src/lib.rt:80:5
 loop-less : tie.Need-loop-less Inv-loop μ-loop
 loop-less c = omega arith
 
--- src/lib.rt:80:5
 loop-again : tie.Need-loop-again Inv-loop μ-loop
 loop-again c =
     let test = c .before in
@@ -130,7 +117,6 @@ loop-again c =
     ))
     (c .if2 .came)
 
--- src/lib.rt:72:1
 returns : tie.Need-returns Inv-loop μ-loop
 returns c =
     let l = c .before .before in

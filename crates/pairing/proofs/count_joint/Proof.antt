@@ -31,23 +31,18 @@ here c =
     let a = l .before .before .before .before .before .before .before .before .args in
     walk-here (a .b) (a .second .now) (a .b .arcs) (l .loop .i) (l .loop .at) (c .if2 .taken) (l .loop .inv .2)
 
--- src/lib.rt:27:30
 add-byte : tie.Need-add-byte Inv-loop μ-loop
 add-byte c = omega (arith, c .before .before .pre .0)
 
--- src/lib.rt:27:9
 byte-requires : tie.Need-byte-requires Inv-loop μ-loop
 byte-requires c κs = omega (arith, c .before .before .pre .0)
 
--- src/lib.rt:28:25
 add-byte-2 : tie.Need-add-byte-2 Inv-loop μ-loop
 add-byte-2 c = omega (arith, c .before .before .before .pre .0)
 
--- src/lib.rt:28:9
 byte-requires-2 : tie.Need-byte-requires-2 Inv-loop μ-loop
 byte-requires-2 c κs = omega (arith, c .before .before .before .pre .0)
 
--- src/lib.rt:33:9
 returns : tie.Need-returns Inv-loop μ-loop
 returns c =
     let letter = c .before .before .byte in
@@ -55,17 +50,14 @@ returns c =
     let x = arcOf (drop (a .from) (a .first .now)) in
     (λ n k. rw (joint-nothing n k (automatonOf (a .second .now) .arcs) x _ (letter-at (a .first .now) (a .from)) (sym (letter .ensures .0) ∙ c .if1 .taken)) none-tallied, omega arith, omega arith)
 
--- src/lib.rt:35:18
 add-at : tie.Need-add-at Inv-loop μ-loop
 add-at c = omega (arith, valid-ranges _ _ (c .before .before .before .before .before .before .pre .1) .letters)
 
--- src/lib.rt:35:18
 add-at-2 : tie.Need-add-at-2 Inv-loop μ-loop
 add-at-2 c =
     let r = valid-ranges _ _ (c .before .before .before .before .before .before .before .pre .1) in
     omega (arith, r .letters, r .states)
 
--- src/lib.rt:37:5
 loop-holds : tie.Need-loop-holds Inv-loop μ-loop
 loop-holds c =
     let s = c .before .before .before .before .before .before .before in
@@ -73,23 +65,18 @@ loop-holds c =
     let e : m - 0 ≡ m = omega arith in
     (omega arith, c .before .before .if1 .left, rw e (walk-start _ _ (s .pre .1)), omega arith, omega arith, λ n k. rw e (uncounted-all _))
 
--- src/lib.rt:38:36
 add-byte-3 : tie.Need-add-byte-3 Inv-loop μ-loop
 add-byte-3 c = omega (arith, here c .whole)
 
--- src/lib.rt:38:23
 byte-requires-3 : tie.Need-byte-requires-3 Inv-loop μ-loop
 byte-requires-3 c κs = omega (arith, here c .whole)
 
--- src/lib.rt:38:19
 add-ops : tie.Need-add-ops Inv-loop μ-loop
 add-ops c = omega (arith, c .byte3 .ensures .1, c .before .before .before .before .before .before .before .byte2 .ensures .1)
 
--- src/lib.rt:39:35
 add-byte-4 : tie.Need-add-byte-4 Inv-loop μ-loop
 add-byte-4 c = omega (arith, here (c .before) .whole)
 
--- src/lib.rt:39:22
 byte-requires-4 : tie.Need-byte-requires-4 Inv-loop μ-loop
 byte-requires-4 c κs = omega (arith, here (c .before) .whole)
 
@@ -102,39 +89,30 @@ bounds c =
     let s = l .before .before .before .before .before .before .before .before in
     (ops .byte3 .ensures .1, ops .before .before .before .before .before .before .before .byte2 .ensures .1, l .loop .inv .3, l .loop .inv .4, omega (arith, ops .before .if2 .taken, valid-ranges _ _ (s .pre .1) .arcs))
 
--- src/lib.rt:40:13
 add-arcs : tie.Need-add-arcs Inv-loop μ-loop
 add-arcs c = omega (arith, bounds c)
 
--- src/lib.rt:41:25
 mul-size : tie.Need-mul-size Inv-loop μ-loop
 mul-size c = omega (arith, bounds c)
 
--- src/lib.rt:41:21
 add-size : tie.Need-add-size Inv-loop μ-loop
 add-size c = omega (arith, bounds c)
 
--- src/lib.rt:41:13
 add-size-2 : tie.Need-add-size-2 Inv-loop μ-loop
 add-size-2 c = omega (arith, bounds c)
 
--- src/lib.rt:44:15
 arc-size-requires : tie.Need-arc-size-requires Inv-loop μ-loop
 arc-size-requires c κs = omega (arith, here (c .before .before .before) .whole)
 
--- src/lib.rt:44:9
 add-at-3 : tie.Need-add-at-3 Inv-loop μ-loop
 add-at-3 c = omega (arith, here (c .before .before .before .before) .whole, c .arc-size .ensures .0)
 
--- src/lib.rt:45:9
 add-i : tie.Need-add-i Inv-loop μ-loop
 add-i c = omega arith
 
--- src/lib.rt:37:5
 loop-less : tie.Need-loop-less Inv-loop μ-loop
 loop-less c = omega arith
 
--- src/lib.rt:37:5
 loop-again : tie.Need-loop-again Inv-loop μ-loop
 loop-again c =
     let test = c .before .before in
@@ -174,7 +152,6 @@ loop-again c =
     ))
     (c .before .if3 .came)
 
--- src/lib.rt:23:1
 returns-2 : tie.Need-returns-2 Inv-loop μ-loop
 returns-2 c =
     let l = c .before .before in

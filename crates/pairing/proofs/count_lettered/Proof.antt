@@ -29,17 +29,14 @@ here c =
     let a = l .before .before .before .before .before .args in
     walk-here (a .a) (a .first .now) (a .a .arcs) (l .loop .i) (l .loop .from) (c .if1 .taken) (l .loop .inv .1)
 
--- src/lib.rt:58:20
 add-from : tie.Need-add-from Inv-loop μ-loop
 add-from c = omega (arith, valid-ranges _ _ (c .before .before .before .pre .0) .letters)
 
--- src/lib.rt:58:20
 add-from-2 : tie.Need-add-from-2 Inv-loop μ-loop
 add-from-2 c =
     let r = valid-ranges _ _ (c .before .before .before .before .pre .0) in
     omega (arith, r .letters, r .states)
 
--- src/lib.rt:60:5
 loop-holds : tie.Need-loop-holds Inv-loop μ-loop
 loop-holds c =
     let s = c .before .before .before .before in
@@ -47,39 +44,31 @@ loop-holds c =
     let e : m - 0 ≡ m = omega arith in
     (omega arith, rw e (walk-start _ _ (s .pre .0)), omega arith, omega arith, λ n k. rw e (uncounted-all _))
 
--- src/lib.rt:61:13
 count-joint-requires : tie.Need-count-joint-requires Inv-loop μ-loop
 count-joint-requires c κs = (here c .whole, c .before .before .before .before .before .before .before .pre .1)
 
--- src/lib.rt:62:9
 add-arcs : tie.Need-add-arcs Inv-loop μ-loop
 add-arcs c =
     let l = c .before .before .before .before in
     omega (arith, c .before .count-joint .ensures .1, l .loop .inv .2, c .before .before .if1 .taken, valid-ranges _ _ (l .before .before .before .before .before .pre .0) .arcs)
 
--- src/lib.rt:63:9
 add-size : tie.Need-add-size Inv-loop μ-loop
 add-size c =
     let l = c .before .before .before .before .before in
     omega (arith, c .before .before .count-joint .ensures .1, l .loop .inv .3, c .before .before .before .if1 .taken, valid-ranges _ _ (l .before .before .before .before .before .pre .0) .arcs)
 
--- src/lib.rt:65:17
 arc-size-requires : tie.Need-arc-size-requires Inv-loop μ-loop
 arc-size-requires c κs = omega (arith, here (c .before .before .before .before) .whole)
 
--- src/lib.rt:65:9
 add-from-3 : tie.Need-add-from-3 Inv-loop μ-loop
 add-from-3 c = omega (arith, here (c .before .before .before .before .before) .whole, c .arc-size .ensures .0)
 
--- src/lib.rt:66:9
 add-i : tie.Need-add-i Inv-loop μ-loop
 add-i c = omega arith
 
--- src/lib.rt:60:5
 loop-less : tie.Need-loop-less Inv-loop μ-loop
 loop-less c = omega arith
 
--- src/lib.rt:60:5
 loop-again : tie.Need-loop-again Inv-loop μ-loop
 loop-again c =
     let joint = c .before .before .before .before in
@@ -98,7 +87,6 @@ loop-again c =
           (uncounted-less (jointWith n k ys (arcOf (drop (l .loop .from) first))) _ (joint .count-joint .ensures .0 n k) (rw (flat-next (jointWith n k ys) (a .a) first m i (l .loop .from) (t .if1 .taken)) at (l .loop .inv .4 n k))),
     )
 
--- src/lib.rt:51:1
 returns : tie.Need-returns Inv-loop μ-loop
 returns c =
     let l = c .before .before in

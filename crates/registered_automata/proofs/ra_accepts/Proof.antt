@@ -1,4 +1,4 @@
--- `ra_accepts` meets its contract.
+-- `registered_automata::ra_accepts` meets its contract.
 use mathlib.Core.Path.{_∙_, ap}
 use Rattle.registered_automata.specs.Results.{membershipFields}
 use borrow.Author.Needs.{needs}

@@ -1,4 +1,4 @@
--- `ra_close` meets its contract.
+-- `registered_automata::ra_close` meets its contract.
 use mathlib.Core.Path.{_∙_, ap}
 use Rattle.registered_automata.specs.Results.{writtenFields}
 use borrow.Author.Needs.{needs}

@@ -1,4 +1,4 @@
--- `ra_read` meets its contract.
+-- `registered_automata::ra_read` meets its contract.
 use mathlib.Core.Path.{_∙_, ap}
 use Rattle.registered_automata.specs.Results.{readingFields}
 use borrow.Author.Needs.{needs}

@@ -1,4 +1,4 @@
--- `ra_unfold` meets its contract.
+-- `registered_automata::ra_unfold` meets its contract.
 use mathlib.Core.Path.{_∙_, ap}
 use Rattle.registered_automata.specs.Results.{writtenFields}
 use borrow.Author.Needs.{needs}

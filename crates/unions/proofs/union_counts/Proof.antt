@@ -6,31 +6,24 @@ use Rattle.unions.proofs.union_counts.Reads as reads
 use Rattle.unions.proofs.union_counts.Lts as lts
 use Rattle.joining.proofs.answer.larger.Reads as larger-reads
 
--- src/union.rt:31:17
 add-t3 : tie.Need-add-t3
 add-t3 c = search needs
 
--- src/union.rt:31:17
 add-t4 : tie.Need-add-t4
 add-t4 c = search needs
 
--- src/union.rt:32:20
 larger-requires : tie.Need-larger-requires
 larger-requires c κs = search needs
 
--- src/union.rt:33:18
 larger-requires-2 : tie.Need-larger-requires-2
 larger-requires-2 c κs = search needs
 
--- src/union.rt:34:15
 add-t7 : tie.Need-add-t7
 add-t7 c = search needs
 
--- src/union.rt:34:15
 add-t8 : tie.Need-add-t8
 add-t8 c = search needs
 
--- src/union.rt:25:1
 returns : tie.Need-returns
 returns c =
     let r = c .before .before .before .larger in

@@ -61,52 +61,41 @@ answered c =
     ∙ decided-written (union x y) (length (s .args .out .now)) r size (union-ops x y (valid-fits _ _ (s .pre .first)) (valid-fits _ _ (s .pre .second)) (s .pre .shared)) n
     (omega (arith, union-length x y, ap (λ (d : Counts). d .letters) n, ap (λ (d : Counts). d .states) n, first .arcs-size .ensures .0, second .arcs-size2 .ensures .0))
 
--- src/union.rt:66:9
 union-counts-requires : tie.Need-union-counts-requires
 union-counts-requires c κs =
     let s = c .before .before .before in
     (valid-ranges _ _ (s .pre .first), valid-ranges _ _ (s .pre .second))
 
--- src/union.rt:67:16
 add-size : tie.Need-add-size
 add-size c = omega (arith, small (c .before))
 
--- src/union.rt:67:16
 add-size-2 : tie.Need-add-size-2
 add-size-2 c = omega (arith, small (c .before .before))
 
--- src/union.rt:67:44
 arcs-size-requires : tie.Need-arcs-size-requires
 arcs-size-requires c κs = search needs
 
--- src/union.rt:67:16
 add-size-3 : tie.Need-add-size-3
 add-size-3 c = omega (arith, small (c .before .before .before), c .arcs-size .ensures .1)
 
--- src/union.rt:67:66
 arcs-size-requires-2 : tie.Need-arcs-size-requires-2
 arcs-size-requires-2 c κs = search needs
 
--- src/union.rt:67:16
 add-size-4 : tie.Need-add-size-4
 add-size-4 c = omega (arith, small (c .before .before .before .before), c .before .arcs-size .ensures .1, c .arcs-size2 .ensures .1)
 
--- src/union.rt:68:9
 decide-requires : tie.Need-decide-requires
 decide-requires c κs = search needs
 
 enum-told : tie.Need-enum-told
 enum-told c = search needs
 
--- src/union.rt:70:9
 enum-told-2 : tie.Need-enum-told-2
 enum-told-2 c = search needs
 
--- src/union.rt:70:9
 returns : tie.Need-returns
 returns c = (answered (c .before .before), rw (c .enum-told2 .given .1))
 
--- src/union.rt:72:5
 write-union-requires : tie.Need-write-union-requires
 write-union-requires c κs =
     let d = c .before .before .before in
@@ -115,11 +104,9 @@ write-union-requires c κs =
     let w = written-bytes (joined s) (length (s .args .out .now)) (sym (answered d) ∙ c .before .enum-told .given .1) in
     (s .pre, counts u, union-fits _ _ (valid-fits _ _ (s .pre .first)) (valid-fits _ _ (s .pre .second)) (s .pre .shared) (w .within), w .room)
 
--- src/union.rt:61:1
 same-length : tie.Need-same-length
 same-length c = search needs
 
--- src/union.rt:61:1
 returns-2 : tie.Need-returns-2
 returns-2 c =
     let w = c .before .before in

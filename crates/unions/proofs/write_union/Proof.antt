@@ -33,20 +33,17 @@ room : (s : tie.Start) → let x = automatonOf (s .args .first .now) in let y = 
 room s =
     omega (arith, simp length-append at (rw (parts s) at (s .pre .3)), header-length (s .args .c), valid-lengths _ _ (s .pre .0 .first), valid-lengths _ _ (s .pre .0 .second))
 
--- src/union.rt:53:9
 write-front-requires : tie.Need-write-front-requires
 write-front-requires c κs =
     let s = c .before .before .before .before in
     (subst (λ (d : Counts). Ranges d) (s .pre .1) (s .pre .2 .ranges), s .pre .0 .first, omega (arith, room s))
 
--- src/union.rt:54:9
 write-byte-requires : tie.Need-write-byte-requires
 write-byte-requires c κs =
     let front = c .before .before .before in
     let s = front .before .before .before .before .before in
     omega (arith, room s, front-ends _ _ (s .pre .0 .first) (s .args .c) (front .write-front .ensures))
 
--- src/union.rt:55:9
 write-flags-requires : tie.Need-write-flags-requires
 write-flags-requires c κs =
     let byte = c .before .before .before in
@@ -54,7 +51,6 @@ write-flags-requires c κs =
     let s = front .before .before .before .before .before in
     (s .pre .0 .first, omega (arith, room s, front-ends _ _ (s .pre .0 .first) (s .args .c) (front .write-front .ensures), appended-ends (byte .write-byte .ensures)))
 
--- src/union.rt:56:9
 write-flags-requires-2 : tie.Need-write-flags-requires-2
 write-flags-requires-2 c κs =
     let left = c .before .before .before in
@@ -65,7 +61,6 @@ write-flags-requires-2 c κs =
       omega (arith, room s, front-ends _ _ (s .pre .0 .first) (s .args .c) (front .write-front .ensures), appended-ends (byte .write-byte .ensures), flags-end _ _ (s .pre .0 .first) (left .write-flags .ensures)),
     )
 
--- src/union.rt:57:5
 write-union-arcs-requires : tie.Need-write-union-arcs-requires
 write-union-arcs-requires c κs =
     let right = c .before .before .before in
@@ -79,11 +74,9 @@ write-union-arcs-requires c κs =
       omega (arith, room s, front-ends _ _ (v .first) (s .args .c) (front .write-front .ensures), appended-ends (byte .write-byte .ensures), flags-end _ _ (v .first) (left .write-flags .ensures), flags-end _ _ (v .second) (right .write-flags2 .ensures)),
     )
 
--- src/union.rt:49:1
 same-length : tie.Need-same-length
 same-length c = search needs
 
--- src/union.rt:49:1
 returns : tie.Need-returns
 returns c =
     let arcs = c .before .before in

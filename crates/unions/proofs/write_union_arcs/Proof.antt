@@ -25,17 +25,14 @@ abbrev parts : (s : tie.Start) → let x = automatonOf (s .args .first .now) in 
     arcsBytes (union x y .arcs) ≡ arcBytes (emptyMove 0 1) ++ (arcBytes (emptyMove 0 (1 + n)) ++ (arcsBytes (map (movedArc 1 0) (x .arcs)) ++ arcsBytes (map (movedArc (1 + n) 0) (y .arcs))))
 parts s = union-arc-parts (automatonOf (s .args .first .now)) (automatonOf (s .args .second .now)) (ap (λ (c : Counts). c .states) (valid-sizes _ _ (s .pre .0 .first)))
 
--- src/lib.rt:42:17
 add-shift : tie.Need-add-shift
 add-shift c = search needs
 
--- src/lib.rt:43:9
 write-entry-requires : tie.Need-write-entry-requires
 write-entry-requires c κs =
     let s = c .before .before .before .before .before in
     (omega arith, omega (arith, simp length-append at (rw (parts s) at (s .pre .2)), entry-length 1))
 
--- src/lib.rt:44:9
 write-entry-requires-2 : tie.Need-write-entry-requires-2
 write-entry-requires-2 c κs =
     let one = c .before .before .before in
@@ -44,7 +41,6 @@ write-entry-requires-2 c κs =
       omega (arith, simp length-append at (rw (parts s) at (s .pre .2)), entry-length (1 + s .args .a .states), appended-ends (one .write-entry .ensures)),
     )
 
--- src/lib.rt:45:9
 write-moved-arcs-requires : tie.Need-write-moved-arcs-requires
 write-moved-arcs-requires c κs =
     let two = c .before .before .before in
@@ -56,7 +52,6 @@ write-moved-arcs-requires c κs =
       omega (arith, simp length-append at (rw (parts s) at (s .pre .2)), appended-ends (one .write-entry .ensures), appended-ends (two .write-entry2 .ensures)),
     )
 
--- src/lib.rt:46:5
 write-moved-arcs-requires-2 : tie.Need-write-moved-arcs-requires-2
 write-moved-arcs-requires-2 c κs =
     let left = c .before .before .before in
@@ -69,11 +64,9 @@ write-moved-arcs-requires-2 c κs =
       omega (arith, simp length-append at (rw (parts s) at (s .pre .2)), appended-ends (one .write-entry .ensures), appended-ends (two .write-entry2 .ensures), appended-ends (left .write-moved-arcs .ensures)),
     )
 
--- src/lib.rt:38:1
 same-length : tie.Need-same-length
 same-length c = search needs
 
--- src/lib.rt:38:1
 returns : tie.Need-returns
 returns c =
     let right = c .before .before in

@@ -1,4 +1,4 @@
--- `words::is_same` meets its contract, which says nothing of its answer. The measure is the number of bytes left.
+-- `console::words::is_same` meets its contract, which says nothing of its answer. The measure is the number of bytes left.
 use borrow.Author.Needs.{needs}
 use Prim.Native.Nat.{_-_}
 use lib.ListN.{length}

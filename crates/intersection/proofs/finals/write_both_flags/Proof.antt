@@ -59,11 +59,9 @@ other-turn c =
     let h = c .before .before .if1 .taken in
     rw (flags-other (flagBytes (a .a) first) (automatonOf (a .second .now) .finals) (l .loop .i) (omega (arith, h, flag-count s)) (λ e. c .if2 .left (c .before .byte .ensures .0 ∙ sym (flag-at (a .a) first (l .loop .i) h) ∙ e)), valid-lengths _ _ (s .pre .1) .1) at (l .loop .inv .1)
 
--- src/finals.rt:29:17
 add-flags : tie.Need-add-flags Inv-loop μ-loop
 add-flags c = omega (arith, valid-ranges _ _ (c .before .before .before .before .pre .0) .letters)
 
--- src/finals.rt:32:5
 loop-holds : tie.Need-loop-holds Inv-loop μ-loop
 loop-holds c =
     let s = c .before .before .before .before in
@@ -76,15 +74,12 @@ loop-holds c =
     let all : Left (a .at) (map flagByte (bothFinal x y)) (a .out .now) (a .at) (map flagByte (bothFinal x y)) (a .out .now) = left-all (omega (arith, s .pre .2)) in
     (omega arith, subst (λ (l : List ℕ). Left (a .at) (map flagByte (bothFinal x y)) (a .out .now) (a .at) l (a .out .now)) (ap (λ (l : List Bool). map flagByte (bothFinal l y)) (valid-finals _ _ (s .pre .0))) all)
 
--- src/finals.rt:33:24
 add-byte : tie.Need-add-byte Inv-loop μ-loop
 add-byte c = omega (arith, placed c)
 
--- src/finals.rt:33:12
 byte-requires : tie.Need-byte-requires Inv-loop μ-loop
 byte-requires c κs = omega (arith, placed c)
 
--- src/finals.rt:34:13
 write-flags-requires : tie.Need-write-flags-requires Inv-loop μ-loop
 write-flags-requires c κs =
     let t = c .before in
@@ -92,7 +87,6 @@ write-flags-requires c κs =
     let room = left-fits (map flagByte (automatonOf (s .args .second .now) .finals)) _ (final-turn t) in
     (s .pre .1, omega (arith, valid-lengths _ _ (s .pre .1)))
 
--- src/finals.rt:36:13
 write-zeros-requires : tie.Need-write-zeros-requires Inv-loop μ-loop
 write-zeros-requires c κs =
     let t = c .before in
@@ -100,15 +94,12 @@ write-zeros-requires c κs =
     let room = left-fits (replicate (s .args .b .states) 0) _ (other-turn t) in
     omega (arith, length-replicate {A = ℕ} (s .args .b .states) 0)
 
--- src/finals.rt:38:9
 add-i : tie.Need-add-i Inv-loop μ-loop
 add-i c = omega arith
 
--- src/finals.rt:32:5
 loop-less : tie.Need-loop-less Inv-loop μ-loop
 loop-less c = omega arith
 
--- src/finals.rt:32:5
 loop-again : tie.Need-loop-again Inv-loop μ-loop
 loop-again c =
     let test = c .before in
@@ -117,11 +108,9 @@ loop-again c =
     (λ w. (omega arith, rw (w .5, w .6) (left-less _ (other-turn (record { before = test; if2 = w .0 })) (w .2 .ensures))))
     (c .if2 .came)
 
--- src/finals.rt:18:1
 same-length : tie.Need-same-length Inv-loop μ-loop
 same-length c = c .before .before .loop .inv .1 .size
 
--- src/finals.rt:18:1
 returns : tie.Need-returns Inv-loop μ-loop
 returns c =
     let l = c .before .before in

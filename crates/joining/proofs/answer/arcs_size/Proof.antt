@@ -6,21 +6,17 @@ use Rattle.joining.proofs.answer.arcs_size.Tie as tie
 use Rattle.joining.proofs.answer.arcs_size.Reads as reads
 use Rattle.joining.proofs.answer.arcs_size.Lts as lts
 
--- src/answer.rt:24:19
 add-result : tie.Need-add-result
 add-result c = omega (arith, valid-ranges _ _ (c .before .pre) .letters)
 
--- src/answer.rt:24:19
 add-result-2 : tie.Need-add-result-2
 add-result-2 c =
     let r = valid-ranges _ _ (c .before .before .pre) in
     omega (arith, r .letters, r .states)
 
--- src/answer.rt:24:5
 sub-result : tie.Need-sub-result
 sub-result c = omega (arith, file-seen _ _ (c .before .before .pre) .there)
 
--- src/answer.rt:20:1
 returns : tie.Need-returns
 returns c =
     let s = c .before .before in

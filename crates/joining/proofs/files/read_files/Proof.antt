@@ -37,92 +37,71 @@ compared c =
     let n = v .before .right .given .0 .0 in
     valid-files (a .first .now) (a .second .now) (left-valid v) (right-valid v) ∙ rw (c .same-bytes .ensures, lent-letters m (a .first .now), lent-letters n (a .second .now))
 
--- src/files.rt:35:9
 read-requires : tie.Need-read-requires
 read-requires c κs = search needs
 
--- src/files.rt:36:24
 enum-known-left : tie.Need-enum-known-left
 enum-known-left c = search needs
 
--- src/files.rt:37:29
 enum-told : tie.Need-enum-told
 enum-told c = search needs
 
--- src/files.rt:37:29
 number-requires : tie.Need-number-requires
 number-requires c κs = search needs
 
--- src/files.rt:37:9
 returns : tie.Need-returns
 returns c =
     let g = c .before .enum-told .given in
     ap (λ (n : ℕ). Fault n 1) (c .number .ensures ∙ ap numberOf (g .1)) ∙ sym (first-fault _ _ (sym (c .before .before .before .read .ensures) ∙ g .1))
 
--- src/files.rt:39:9
 read-requires-2 : tie.Need-read-requires-2
 read-requires-2 c κs = search needs
 
--- src/files.rt:40:24
 enum-known-right : tie.Need-enum-known-right
 enum-known-right c = search needs
 
--- src/files.rt:41:29
 enum-told-2 : tie.Need-enum-told-2
 enum-told-2 c = search needs
 
--- src/files.rt:41:29
 number-requires-2 : tie.Need-number-requires-2
 number-requires-2 c κs = search needs
 
--- src/files.rt:41:9
 returns-2 : tie.Need-returns-2
 returns-2 c =
     let g = c .before .enum-told2 .given in
     let left = sym (c .before .before .before .before .before .before .before .read .ensures) ∙ c .before .before .before .before .before .left .given .1 in
     ap (λ (n : ℕ). Fault n 2) (c .number2 .ensures ∙ ap numberOf (g .1)) ∙ sym (second-fault _ _ left (sym (c .before .before .before .read2 .ensures) ∙ g .1))
 
--- src/files.rt:43:15
 add-end : tie.Need-add-end
 add-end c = omega (arith, valid-letters _ _ (left-valid (c .before)))
 
--- src/files.rt:44:17
 add-other : tie.Need-add-other
 add-other c = omega (arith, valid-letters _ _ (right-valid (c .before .before)))
 
--- src/files.rt:45:20
 sub-same-bytes : tie.Need-sub-same-bytes
 sub-same-bytes c = search needs
 
--- src/files.rt:45:20
 part-same-bytes-start : tie.Need-part-same-bytes-start
 part-same-bytes-start c = search needs
 
--- src/files.rt:45:20
 part-same-bytes-end : tie.Need-part-same-bytes-end
 part-same-bytes-end c = omega (arith, valid-letters _ _ (left-valid (c .before .before)))
 
--- src/files.rt:45:37
 sub-same-bytes-2 : tie.Need-sub-same-bytes-2
 sub-same-bytes-2 c = search needs
 
--- src/files.rt:45:37
 part-same-bytes-start-2 : tie.Need-part-same-bytes-start-2
 part-same-bytes-start-2 c = search needs
 
--- src/files.rt:45:37
 part-same-bytes-end-2 : tie.Need-part-same-bytes-end-2
 part-same-bytes-end-2 c = omega (arith, valid-letters _ _ (right-valid (c .before .before .before)))
 
--- src/files.rt:45:9
 same-bytes-requires : tie.Need-same-bytes-requires
 same-bytes-requires c κs = search needs
 
--- src/files.rt:46:9
 returns-3 : tie.Need-returns-3
 returns-3 c = sym (compared (c .before) ∙ rw (not-true (c .before .same-bytes .result) (c .if1 .taken)))
 
--- src/files.rt:32:1
 returns-4 : tie.Need-returns-4
 returns-4 c = sym (compared (c .before) ∙ rw (not-false (c .before .same-bytes .result) (c .if1 .left)))
 

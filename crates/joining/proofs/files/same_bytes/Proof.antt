@@ -27,39 +27,30 @@ turn c =
     let a = c .before .before .before .before .before .args in
     l .inv .1 ∙ rw add-one (same-at (a .left .now) (a .right .now) (l .i) (omega arith) (omega arith))
 
--- src/files.rt:19:9
 returns : tie.Need-returns Inv-loop μ-loop
 returns c = sym (other-lengths (c .before .args .left .now) (c .before .args .right .now) (c .if1 .taken))
 
--- src/files.rt:22:5
 loop-holds : tie.Need-loop-holds Inv-loop μ-loop
 loop-holds c = (omega arith, refl)
 
--- src/files.rt:23:12
 shared-slice-read-if2 : tie.Need-shared-slice-read-if2 Inv-loop μ-loop
 shared-slice-read-if2 c = omega arith
 
--- src/files.rt:23:23
 shared-slice-read-if2-2 : tie.Need-shared-slice-read-if2-2 Inv-loop μ-loop
 shared-slice-read-if2-2 c = omega arith
 
--- src/files.rt:24:13
 returns-2 : tie.Need-returns-2 Inv-loop μ-loop
 returns-2 c = sym (turn (c .before) ∙ rw (ne-eqb _ _ (c .if2 .taken)))
 
--- src/files.rt:26:9
 add-i : tie.Need-add-i Inv-loop μ-loop
 add-i c = omega arith
 
--- src/files.rt:22:5
 loop-less : tie.Need-loop-less Inv-loop μ-loop
 loop-less c = omega arith
 
--- src/files.rt:22:5
 loop-again : tie.Need-loop-again Inv-loop μ-loop
 loop-again c = (omega arith, turn (c .before) ∙ rw (eq-eqb _ _ (c .if2 .left)))
 
--- src/files.rt:15:1
 returns-3 : tie.Need-returns-3 Inv-loop μ-loop
 returns-3 c = sym (c .before .loop .inv .1 ∙ same-end (c .before .before .before .args .left .now) (c .before .before .before .args .right .now) (c .before .loop .i) (omega arith) (omega arith))
 

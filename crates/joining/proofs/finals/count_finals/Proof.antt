@@ -12,33 +12,26 @@ use Rattle.joining.proofs.finals.count_finals.Reads as reads
 use Rattle.joining.proofs.finals.count_finals.Lts as lts
 use Rattle.joining.proofs.finals.count_flags.Reads as count-flags-reads
 
--- src/finals.rt:58:17
 add-flags : tie.Need-add-flags
 add-flags c = omega (arith, valid-ranges _ _ (c .before .before .pre) .letters)
 
--- src/finals.rt:59:15
 add-end : tie.Need-add-end
 add-end c =
     let r = valid-ranges _ _ (c .before .before .before .pre) in
     omega (arith, r .letters, r .states)
 
--- src/finals.rt:60:17
 sub-count-flags : tie.Need-sub-count-flags
 sub-count-flags c = search needs
 
--- src/finals.rt:60:17
 part-count-flags-start : tie.Need-part-count-flags-start
 part-count-flags-start c = search needs
 
--- src/finals.rt:60:17
 part-count-flags-end : tie.Need-part-count-flags-end
 part-count-flags-end c = omega (arith, file-seen _ _ (c .before .before .before .pre) .there)
 
--- src/finals.rt:60:5
 count-flags-requires : tie.Need-count-flags-requires
 count-flags-requires c κs = search needs
 
--- src/finals.rt:54:1
 returns : tie.Need-returns
 returns c =
     let s = c .before .before .before .before .before in

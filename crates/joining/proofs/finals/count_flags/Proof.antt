@@ -15,27 +15,21 @@ Inv-loop flags n₀ i₀ n i = (i ≤ length flags) × (n ≤ i) × (n + length 
 abbrev μ-loop : tie.MeasureT-loop
 μ-loop flags n₀ i₀ n i = length flags - i
 
--- src/finals.rt:20:5
 loop-holds : tie.Need-loop-holds Inv-loop μ-loop
 loop-holds c = (omega arith, omega arith, omega arith)
 
--- src/finals.rt:21:12
 shared-slice-read-if1 : tie.Need-shared-slice-read-if1 Inv-loop μ-loop
 shared-slice-read-if1 c = omega arith
 
--- src/finals.rt:22:13
 add-n : tie.Need-add-n Inv-loop μ-loop
 add-n c = omega arith
 
--- src/finals.rt:24:9
 add-i : tie.Need-add-i Inv-loop μ-loop
 add-i c = omega arith
 
--- src/finals.rt:20:5
 loop-less : tie.Need-loop-less Inv-loop μ-loop
 loop-less c = omega arith
 
--- src/finals.rt:20:5
 loop-again : tie.Need-loop-again Inv-loop μ-loop
 loop-again c =
     let l = c .before .before .before .loop in
@@ -46,7 +40,6 @@ loop-again c =
     (λ w. (omega arith, omega arith, omega (arith, ap length (final-not flags (l .i) h (w .0 .left)), l .inv .2)))
     (c .if1 .came)
 
--- src/finals.rt:15:1
 returns : tie.Need-returns Inv-loop μ-loop
 returns c =
     let flags = c .before .before .args .flags .now in

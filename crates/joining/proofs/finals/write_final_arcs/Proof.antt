@@ -10,39 +10,31 @@ use Rattle.joining.proofs.finals.write_final_arcs.Reads as reads
 use Rattle.joining.proofs.finals.write_final_arcs.Lts as lts
 use Rattle.joining.proofs.finals.write_returns.Reads as write-returns-reads
 
--- src/finals.rt:69:17
 add-flags : tie.Need-add-flags
 add-flags c = omega (arith, valid-ranges _ _ (c .before .before .before .pre .0) .letters)
 
--- src/finals.rt:70:15
 add-end : tie.Need-add-end
 add-end c =
     let r = valid-ranges _ _ (c .before .before .before .before .pre .0) in
     omega (arith, r .letters, r .states)
 
--- src/finals.rt:71:28
 sub-write-returns : tie.Need-sub-write-returns
 sub-write-returns c = search needs
 
--- src/finals.rt:71:28
 part-write-returns-start : tie.Need-part-write-returns-start
 part-write-returns-start c = search needs
 
--- src/finals.rt:71:28
 part-write-returns-end : tie.Need-part-write-returns-end
 part-write-returns-end c = omega (arith, file-seen _ _ (c .before .before .before .before .before .pre .0) .there)
 
--- src/finals.rt:71:5
 write-returns-requires : tie.Need-write-returns-requires
 write-returns-requires c κs =
     let s = c .before .before .before .before .before .before in
     (simp (length-take, length-drop) (omega (arith, s .pre .1)), s .pre .2, s .pre .3, rw (lent-finals _ _ (s .pre .0)) at (s .pre .4))
 
--- src/finals.rt:65:1
 same-length : tie.Need-same-length
 same-length c = search needs
 
--- src/finals.rt:65:1
 returns : tie.Need-returns
 returns c =
     let s = c .before .before .before .before .before .before .before .before .before in

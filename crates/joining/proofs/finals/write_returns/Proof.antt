@@ -30,19 +30,15 @@ turn c =
     let a = l .before .before .before .args in
     rw (final-here (a .flags .now) (l .loop .i) (omega arith) (c .if1 .taken)) at (l .loop .inv .1)
 
--- src/finals.rt:37:5
 loop-holds : tie.Need-loop-holds Inv-loop μ-loop
 loop-holds c = (omega arith, left-all (c .before .before .pre .3))
 
--- src/finals.rt:38:12
 shared-slice-read-if1 : tie.Need-shared-slice-read-if1 Inv-loop μ-loop
 shared-slice-read-if1 c = omega arith
 
--- src/finals.rt:40:25
 add-t14 : tie.Need-add-t14 Inv-loop μ-loop
 add-t14 c = omega arith
 
--- src/finals.rt:44:13
 write-clearing-arc-requires : tie.Need-write-clearing-arc-requires Inv-loop μ-loop
 write-clearing-arc-requires c κs =
     let t = c .before in
@@ -55,15 +51,12 @@ write-clearing-arc-requires c κs =
       omega (arith, arc-length (returning (a .s) (a .t) (a .n) (l .loop .i))),
     )
 
--- src/finals.rt:46:9
 add-i : tie.Need-add-i Inv-loop μ-loop
 add-i c = omega arith
 
--- src/finals.rt:37:5
 loop-less : tie.Need-loop-less Inv-loop μ-loop
 loop-less c = omega arith
 
--- src/finals.rt:37:5
 loop-again : tie.Need-loop-again Inv-loop μ-loop
 unfolding letterOf
 loop-again c =
@@ -74,11 +67,9 @@ loop-again c =
     (λ w. (omega arith, rw (w .1, w .2) (rw (final-not (a .flags .now) (l .i) (omega arith) (w .0 .left)) at (l .inv .1))))
     (c .if1 .came)
 
--- src/finals.rt:31:1
 same-length : tie.Need-same-length Inv-loop μ-loop
 same-length c = c .before .loop .inv .1 .size
 
--- src/finals.rt:31:1
 returns : tie.Need-returns Inv-loop μ-loop
 unfolding arcsBytes
 returns c =

@@ -8,37 +8,29 @@ use Rattle.joining.proofs.flags.write_flags.Reads as reads
 use Rattle.joining.proofs.flags.write_flags.Lts as lts
 use Rattle.writing.proofs.parts.write_copy.Reads as write-copy-reads
 
--- src/flags.rt:19:17
 add-flags : tie.Need-add-flags
 add-flags c = omega (arith, valid-ranges _ _ (c .before .before .before .pre .0) .letters)
 
--- src/flags.rt:20:15
 add-end : tie.Need-add-end
 add-end c =
     let r = valid-ranges _ _ (c .before .before .before .before .pre .0) in
     omega (arith, r .letters, r .states)
 
--- src/flags.rt:21:25
 sub-write-copy : tie.Need-sub-write-copy
 sub-write-copy c = search needs
 
--- src/flags.rt:21:25
 part-write-copy-start : tie.Need-part-write-copy-start
 part-write-copy-start c = search needs
 
--- src/flags.rt:21:25
 part-write-copy-end : tie.Need-part-write-copy-end
 part-write-copy-end c = omega (arith, file-seen _ _ (c .before .before .before .before .before .pre .0) .there)
 
--- src/flags.rt:21:5
 write-copy-requires : tie.Need-write-copy-requires
 write-copy-requires c κs = search needs
 
--- src/flags.rt:15:1
 same-length : tie.Need-same-length
 same-length c = search needs
 
--- src/flags.rt:15:1
 returns : tie.Need-returns
 returns c =
     let s = c .before .before .before .before .before .before .before .before .before in

@@ -6,15 +6,12 @@ use Rattle.joining.proofs.groups.write_entry.Reads as reads
 use Rattle.joining.proofs.groups.write_entry.Lts as lts
 use Rattle.arc_writing.proofs.write_plain_arc.Reads as write-plain-arc-reads
 
--- src/groups.rt:29:5
 write-plain-arc-requires : tie.Need-write-plain-arc-requires
 write-plain-arc-requires c κs = search needs
 
--- src/groups.rt:20:1
 same-length : tie.Need-same-length
 same-length c = search needs
 
--- src/groups.rt:20:1
 returns : tie.Need-returns
 unfolding letterOf
 returns c = c .before .before .write-plain-arc .ensures

@@ -13,59 +13,45 @@ use Rattle.joining.proofs.groups.write_moved_arc.Lts as lts
 use Rattle.file_parts.proofs.fields.byte.Reads as byte-reads
 use Rattle.arc_writing.proofs.write_arc.Reads as write-arc-reads
 
--- src/groups.rt:26:21
 byte-requires : tie.Need-byte-requires
 byte-requires c κs = search needs
 
--- src/groups.rt:26:17
 add-t11 : tie.Need-add-t11
 add-t11 c = search needs
 
--- src/groups.rt:27:28
 add-byte : tie.Need-add-byte
 add-byte c = search needs
 
--- src/groups.rt:27:17
 byte-requires-2 : tie.Need-byte-requires-2
 byte-requires-2 c κs = search needs
 
--- src/groups.rt:28:32
 add-byte-2 : tie.Need-add-byte-2
 add-byte-2 c = search needs
 
--- src/groups.rt:28:21
 byte-requires-3 : tie.Need-byte-requires-3
 byte-requires-3 c κs = search needs
 
--- src/groups.rt:28:17
 add-write-arc : tie.Need-add-write-arc
 add-write-arc c = search needs
 
--- src/groups.rt:30:24
 add-byte-3 : tie.Need-add-byte-3
 add-byte-3 c = search needs
 
--- src/groups.rt:30:9
 byte-requires-4 : tie.Need-byte-requires-4
 byte-requires-4 c κs = search needs
 
--- src/groups.rt:31:15
 add-ops : tie.Need-add-ops
 add-ops c = search needs
 
--- src/groups.rt:32:27
 sub-write-arc : tie.Need-sub-write-arc
 sub-write-arc c = search needs
 
--- src/groups.rt:32:27
 part-write-arc-start : tie.Need-part-write-arc-start
 part-write-arc-start c = search needs
 
--- src/groups.rt:32:27
 part-write-arc-end : tie.Need-part-write-arc-end
 part-write-arc-end c = search needs
 
--- src/groups.rt:32:5
 write-arc-requires : tie.Need-write-arc-requires
 write-arc-requires c κs =
     let p = c .before .before .byte4 in
@@ -88,11 +74,9 @@ write-arc-requires c κs =
       omega (arith, s .pre .4, p .ensures .0),
     )
 
--- src/groups.rt:21:1
 same-length : tie.Need-same-length
 same-length c = search needs
 
--- src/groups.rt:21:1
 returns : tie.Need-returns
 returns c =
     let w = c .before .before in

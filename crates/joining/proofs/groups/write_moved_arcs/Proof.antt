@@ -39,18 +39,15 @@ turn c =
     let a = l .before .before .before .before .before .args in
     rw (mapped-next (a .c) (a .file .now) (a .c .arcs) (l .loop .i) (l .loop .from) (movedArc (a .s) (a .k)) (c .if1 .taken)) at (l .loop .inv .2)
 
--- src/groups.rt:40:20
 add-from : tie.Need-add-from Inv-loop μ-loop
 add-from c = omega (arith, valid-ranges _ _ (c .before .before .before .pre .0) .letters)
 
--- src/groups.rt:40:20
 add-from-2 : tie.Need-add-from-2 Inv-loop μ-loop
 add-from-2 c =
     let s = c .before .before .before .before in
     let r = valid-ranges _ _ (s .pre .0) in
     omega (arith, r .letters, r .states)
 
--- src/groups.rt:43:5
 loop-holds : tie.Need-loop-holds Inv-loop μ-loop
 loop-holds c =
     let s = c .before .before .before .before in
@@ -58,7 +55,6 @@ loop-holds c =
     let e : m - 0 ≡ m = omega arith in
     (omega arith, rw e (walk-start _ _ (s .pre .0)), rw e (left-all (rw (valid-arcs _ _ (s .pre .0)) at (s .pre .3))))
 
--- src/groups.rt:44:9
 write-moved-arc-requires : tie.Need-write-moved-arc-requires Inv-loop μ-loop
 write-moved-arc-requires c κs =
     let t = c .before in
@@ -74,23 +70,18 @@ write-moved-arc-requires c κs =
       omega (arith, moved-length (s .args .s) (s .args .k) (arcOf arc), read-length arc),
     )
 
--- src/groups.rt:45:17
 arc-size-requires : tie.Need-arc-size-requires Inv-loop μ-loop
 arc-size-requires c κs = omega (arith, here (c .before .before .before .before) .whole)
 
--- src/groups.rt:45:9
 add-from-3 : tie.Need-add-from-3 Inv-loop μ-loop
 add-from-3 c = omega (arith, here (c .before .before .before .before .before) .whole, c .arc-size .ensures .0)
 
--- src/groups.rt:46:9
 add-i : tie.Need-add-i Inv-loop μ-loop
 add-i c = omega arith
 
--- src/groups.rt:43:5
 loop-less : tie.Need-loop-less Inv-loop μ-loop
 loop-less c = omega arith
 
--- src/groups.rt:43:5
 loop-again : tie.Need-loop-again Inv-loop μ-loop
 loop-again c =
     let w = c .before .before .before in
@@ -102,11 +93,9 @@ loop-again c =
       rw (c .arc-size .ensures .0) (left-less _ (turn t) (w .write-moved-arc .ensures)),
     )
 
--- src/groups.rt:36:1
 same-length : tie.Need-same-length Inv-loop μ-loop
 same-length c = c .before .before .loop .inv .2 .size
 
--- src/groups.rt:36:1
 returns : tie.Need-returns Inv-loop μ-loop
 returns c =
     let l = c .before .before in

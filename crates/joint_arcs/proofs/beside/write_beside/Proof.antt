@@ -25,67 +25,51 @@ target-small c =
     let s = c .before .before .before .before .before .before in
     rw (c .byte2 .ensures .0, ← target-at (s .args .file .now) (s .args .from)) (s .pre .2)
 
--- src/beside.rt:34:17
 byte-requires : tie.Need-byte-requires
 byte-requires c κs = search needs
 
--- src/beside.rt:34:17
 mul-t11 : tie.Need-mul-t11
 mul-t11 c = omega (arith, source-small (c .before))
 
--- src/beside.rt:34:46
 mul-t12 : tie.Need-mul-t12
 mul-t12 c = search needs
 
--- src/beside.rt:34:17
 add-t13 : tie.Need-add-t13
 add-t13 c = omega (arith, source-small (c .before .before))
 
--- src/beside.rt:36:28
 add-byte : tie.Need-add-byte
 add-byte c = search needs
 
--- src/beside.rt:36:17
 byte-requires-2 : tie.Need-byte-requires-2
 byte-requires-2 c κs = search needs
 
--- src/beside.rt:36:17
 mul-write-arc : tie.Need-mul-write-arc
 mul-write-arc c = omega (arith, target-small (c .before))
 
--- src/beside.rt:36:50
 mul-write-arc-2 : tie.Need-mul-write-arc-2
 mul-write-arc-2 c = search needs
 
--- src/beside.rt:36:17
 add-write-arc : tie.Need-add-write-arc
 add-write-arc c = omega (arith, target-small (c .before .before))
 
--- src/beside.rt:38:24
 add-byte-2 : tie.Need-add-byte-2
 add-byte-2 c = search needs
 
--- src/beside.rt:38:9
 byte-requires-3 : tie.Need-byte-requires-3
 byte-requires-3 c κs = search needs
 
--- src/beside.rt:39:15
 add-ops : tie.Need-add-ops
 add-ops c = search needs
 
--- src/beside.rt:40:27
 sub-write-arc : tie.Need-sub-write-arc
 sub-write-arc c = search needs
 
--- src/beside.rt:40:27
 part-write-arc-start : tie.Need-part-write-arc-start
 part-write-arc-start c = search needs
 
--- src/beside.rt:40:27
 part-write-arc-end : tie.Need-part-write-arc-end
 part-write-arc-end c = search needs
 
--- src/beside.rt:40:5
 write-arc-requires : tie.Need-write-arc-requires
 write-arc-requires c κs =
     let p = c .before .before .byte3 in
@@ -99,11 +83,9 @@ write-arc-requires c κs =
       omega (arith, s .pre .4, p .ensures .0),
     )
 
--- src/beside.rt:29:1
 same-length : tie.Need-same-length
 same-length c = search needs
 
--- src/beside.rt:29:1
 returns : tie.Need-returns
 unfolding letterOf
 returns c =

@@ -29,7 +29,6 @@ turn c =
     let a = l .before .before .before .args in
     rw (beside-next (besideArc (a .b) (arcOf (drop (a .from) (a .file .now)))) (a .b .states) (l .loop .i) (c .if1 .taken)) at (l .loop .inv .1)
 
--- src/beside.rt:50:5
 loop-holds : tie.Need-loop-holds Inv-loop μ-loop
 loop-holds c =
     let s = c .before .before in
@@ -37,7 +36,6 @@ loop-holds c =
     let e : n - 0 ≡ n = omega arith in
     (omega arith, rw e (left-all (s .pre .4)))
 
--- src/beside.rt:51:9
 write-beside-requires : tie.Need-write-beside-requires Inv-loop μ-loop
 write-beside-requires c κs =
     let t = c .before in
@@ -48,25 +46,20 @@ write-beside-requires c κs =
     let room = left-fits (arcBytes (besideArc (a .b) (arcOf arc) (l .loop .i))) _ (turn t) in
     (s .pre .0, s .pre .1 (l .loop .i) (t .if1 .taken), s .pre .2 (l .loop .i) (t .if1 .taken), s .pre .3, omega (arith, beside-length (a .b) arc (l .loop .i)))
 
--- src/beside.rt:52:9
 add-i : tie.Need-add-i Inv-loop μ-loop
 add-i c = omega arith
 
--- src/beside.rt:50:5
 loop-less : tie.Need-loop-less Inv-loop μ-loop
 loop-less c = omega arith
 
--- src/beside.rt:50:5
 loop-again : tie.Need-loop-again Inv-loop μ-loop
 loop-again c =
     let w = c .before .before in
     (omega arith, left-less _ (turn (w .before .before)) (w .write-beside .ensures))
 
--- src/beside.rt:44:1
 same-length : tie.Need-same-length Inv-loop μ-loop
 same-length c = c .before .before .loop .inv .1 .size
 
--- src/beside.rt:44:1
 returns : tie.Need-returns Inv-loop μ-loop
 returns c =
     let l = c .before .before in

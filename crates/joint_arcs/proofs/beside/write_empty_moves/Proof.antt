@@ -50,17 +50,14 @@ turn c =
     let m = a .c .arcs in
     rw (empty-next f n (a .c) file m (l .loop .i) (l .loop .from) (c .before .before .if1 .taken) (sym (c .before .byte .ensures .0) ∙ c .if2 .taken), arcs-append (map (f (arcOf arc)) (countFrom 0 n)) (emptyWith f n (arcsOf (m - (l .loop .i + 1)) (drop (l .loop .from + arcSize arc) file)))) at (l .loop .inv .2)
 
--- src/beside.rt:63:20
 add-from : tie.Need-add-from Inv-loop μ-loop
 add-from c = omega (arith, valid-ranges _ _ (c .before .before .before .pre .0) .letters)
 
--- src/beside.rt:63:20
 add-from-2 : tie.Need-add-from-2 Inv-loop μ-loop
 add-from-2 c =
     let r = valid-ranges _ _ (c .before .before .before .before .pre .0) in
     omega (arith, r .letters, r .states)
 
--- src/beside.rt:65:5
 loop-holds : tie.Need-loop-holds Inv-loop μ-loop
 loop-holds c =
     let s = c .before .before .before .before in
@@ -68,15 +65,12 @@ loop-holds c =
     let e : m - 0 ≡ m = omega arith in
     (omega arith, rw e (walk-start _ _ (s .pre .0)), rw e (left-all (rw (valid-arcs _ _ (s .pre .0)) at (s .pre .3))))
 
--- src/beside.rt:66:23
 add-byte : tie.Need-add-byte Inv-loop μ-loop
 add-byte c = omega (arith, here c .whole)
 
--- src/beside.rt:66:12
 byte-requires : tie.Need-byte-requires Inv-loop μ-loop
 byte-requires c κs = omega (arith, here c .whole)
 
--- src/beside.rt:67:13
 write-beside-each-requires : tie.Need-write-beside-each-requires Inv-loop μ-loop
 write-beside-each-requires c κs =
     let t = c .before in
@@ -87,23 +81,18 @@ write-beside-each-requires c κs =
     let arc = drop (l .loop .from) (a .file .now) in
     (h .whole, λ j k. s .pre .1 (arcOf arc .source) j (h .fits .source) k, λ j k. s .pre .1 (arcOf arc .target) j (h .fits .target) k, s .pre .2, left-fits (arcsBytes (map (besideArc (a .b) (arcOf arc)) (countFrom 0 (a .b .states)))) _ (turn t))
 
--- src/beside.rt:69:17
 arc-size-requires : tie.Need-arc-size-requires Inv-loop μ-loop
 arc-size-requires c κs = omega (arith, here (c .before .before) .whole)
 
--- src/beside.rt:69:9
 add-from-3 : tie.Need-add-from-3 Inv-loop μ-loop
 add-from-3 c = omega (arith, here (c .before .before .before) .whole, c .arc-size .ensures .0)
 
--- src/beside.rt:70:9
 add-i : tie.Need-add-i Inv-loop μ-loop
 add-i c = omega arith
 
--- src/beside.rt:65:5
 loop-less : tie.Need-loop-less Inv-loop μ-loop
 loop-less c = omega arith
 
--- src/beside.rt:65:5
 loop-again : tie.Need-loop-again Inv-loop μ-loop
 loop-again c =
     let test = c .before .before in
@@ -123,11 +112,9 @@ loop-again c =
     ))
     (c .before .if2 .came)
 
--- src/beside.rt:58:1
 same-length : tie.Need-same-length Inv-loop μ-loop
 same-length c = c .before .before .loop .inv .2 .size
 
--- src/beside.rt:58:1
 returns : tie.Need-returns Inv-loop μ-loop
 unfolding arcsBytes
 returns c =

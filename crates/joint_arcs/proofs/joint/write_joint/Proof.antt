@@ -37,103 +37,78 @@ target-small c =
     let a = c .before .before .before .before .before .before .before .before .args in
     rw (c .byte5 .ensures .0, ← target-at (a .second .now) (a .other)) (target-product (c .before))
 
--- src/joint.rt:35:17
 byte-requires : tie.Need-byte-requires
 byte-requires c κs = search needs
 
--- src/joint.rt:35:17
 mul-t15 : tie.Need-mul-t15
 mul-t15 c = omega (arith, source-product c)
 
--- src/joint.rt:35:41
 byte-requires-2 : tie.Need-byte-requires-2
 byte-requires-2 c κs = search needs
 
--- src/joint.rt:35:17
 add-t17 : tie.Need-add-t17
 add-t17 c = omega (arith, source-small c)
 
--- src/joint.rt:36:29
 add-byte : tie.Need-add-byte
 add-byte c = search needs
 
--- src/joint.rt:36:17
 byte-requires-3 : tie.Need-byte-requires-3
 byte-requires-3 c κs = search needs
 
--- src/joint.rt:37:29
 add-byte-2 : tie.Need-add-byte-2
 add-byte-2 c = search needs
 
--- src/joint.rt:37:17
 byte-requires-4 : tie.Need-byte-requires-4
 byte-requires-4 c κs = search needs
 
--- src/joint.rt:37:17
 mul-byte : tie.Need-mul-byte
 mul-byte c = omega (arith, target-product c)
 
--- src/joint.rt:37:58
 add-byte-3 : tie.Need-add-byte-3
 add-byte-3 c = search needs
 
--- src/joint.rt:37:45
 byte-requires-5 : tie.Need-byte-requires-5
 byte-requires-5 c κs = search needs
 
--- src/joint.rt:37:17
 add-byte-4 : tie.Need-add-byte-4
 add-byte-4 c = omega (arith, target-small c)
 
--- src/joint.rt:39:25
 add-byte-5 : tie.Need-add-byte-5
 add-byte-5 c = search needs
 
--- src/joint.rt:39:9
 byte-requires-6 : tie.Need-byte-requires-6
 byte-requires-6 c κs = search needs
 
--- src/joint.rt:40:26
 add-byte-6 : tie.Need-add-byte-6
 add-byte-6 c = search needs
 
--- src/joint.rt:40:9
 byte-requires-7 : tie.Need-byte-requires-7
 byte-requires-7 c κs = search needs
 
--- src/joint.rt:41:16
 add-left : tie.Need-add-left
 add-left c = search needs
 
--- src/joint.rt:42:17
 add-right : tie.Need-add-right
 add-right c = search needs
 
--- src/joint.rt:43:33
 sub-write-joint-arc : tie.Need-sub-write-joint-arc
 sub-write-joint-arc c = search needs
 
--- src/joint.rt:43:33
 part-write-joint-arc-start : tie.Need-part-write-joint-arc-start
 part-write-joint-arc-start c = search needs
 
--- src/joint.rt:43:33
 part-write-joint-arc-end : tie.Need-part-write-joint-arc-end
 part-write-joint-arc-end c = search needs
 
--- src/joint.rt:43:52
 sub-write-joint-arc-2 : tie.Need-sub-write-joint-arc-2
 sub-write-joint-arc-2 c = search needs
 
--- src/joint.rt:43:52
 part-write-joint-arc-start-2 : tie.Need-part-write-joint-arc-start-2
 part-write-joint-arc-start-2 c = search needs
 
--- src/joint.rt:43:52
 part-write-joint-arc-end-2 : tie.Need-part-write-joint-arc-end-2
 part-write-joint-arc-end-2 c = search needs
 
--- src/joint.rt:43:5
 write-joint-arc-requires : tie.Need-write-joint-arc-requires
 write-joint-arc-requires c κs =
     let q = c .before .before .before .byte7 in
@@ -156,11 +131,9 @@ write-joint-arc-requires c κs =
       omega (arith, s .pre .1, p .ensures .0, q .ensures .0, arc-length (arcBoth (a .n) (a .k) x y), joint-ops (a .n) (a .k) x y),
     )
 
--- src/joint.rt:21:1
 same-length : tie.Need-same-length
 same-length c = search needs
 
--- src/joint.rt:21:1
 returns : tie.Need-returns
 returns c =
     let w = c .before .before in

@@ -45,17 +45,14 @@ turn c =
     let m = a .a .arcs in
     rw (flat-next g (a .a) first m (l .loop .i) (l .loop .from) (c .if1 .taken), arcs-append (g (arcOf arc)) (flatMap g (arcsOf (m - (l .loop .i + 1)) (drop (l .loop .from + arcSize arc) first)))) at (l .loop .inv .2)
 
--- src/joint.rt:90:20
 add-from : tie.Need-add-from Inv-loop μ-loop
 add-from c = omega (arith, valid-ranges _ _ (c .before .before .before .before .pre .0) .letters)
 
--- src/joint.rt:90:20
 add-from-2 : tie.Need-add-from-2 Inv-loop μ-loop
 add-from-2 c =
     let r = valid-ranges _ _ (c .before .before .before .before .before .pre .0) in
     omega (arith, r .letters, r .states)
 
--- src/joint.rt:92:5
 loop-holds : tie.Need-loop-holds Inv-loop μ-loop
 loop-holds c =
     let s = c .before .before .before .before .before in
@@ -63,7 +60,6 @@ loop-holds c =
     let e : m - 0 ≡ m = omega arith in
     (omega arith, rw e (walk-start _ _ (s .pre .0)), rw e (left-all (rw (valid-arcs _ _ (s .pre .0)) at (s .pre .4))))
 
--- src/joint.rt:93:9
 write-joint-with-requires : tie.Need-write-joint-with-requires Inv-loop μ-loop
 write-joint-with-requires c κs =
     let t = c .before in
@@ -81,23 +77,18 @@ write-joint-with-requires c κs =
       left-fits (arcsBytes (jointWith (a .b .states) (a .k) (automatonOf (a .second .now) .arcs) x)) _ (turn t),
     )
 
--- src/joint.rt:94:17
 arc-size-requires : tie.Need-arc-size-requires Inv-loop μ-loop
 arc-size-requires c κs = omega (arith, here (c .before .before .before .before) .whole)
 
--- src/joint.rt:94:9
 add-from-3 : tie.Need-add-from-3 Inv-loop μ-loop
 add-from-3 c = omega (arith, here (c .before .before .before .before .before) .whole, c .arc-size .ensures .0)
 
--- src/joint.rt:95:9
 add-i : tie.Need-add-i Inv-loop μ-loop
 add-i c = omega arith
 
--- src/joint.rt:92:5
 loop-less : tie.Need-loop-less Inv-loop μ-loop
 loop-less c = omega arith
 
--- src/joint.rt:92:5
 loop-again : tie.Need-loop-again Inv-loop μ-loop
 loop-again c =
     let w = c .before .before .before in
@@ -109,11 +100,9 @@ loop-again c =
       rw (c .arc-size .ensures .0) (left-less _ (turn t) (w .write-joint-with .ensures)),
     )
 
--- src/joint.rt:77:1
 same-length : tie.Need-same-length Inv-loop μ-loop
 same-length c = c .before .before .loop .inv .2 .size
 
--- src/joint.rt:77:1
 returns : tie.Need-returns Inv-loop μ-loop
 unfolding arcsBytes
 returns c =

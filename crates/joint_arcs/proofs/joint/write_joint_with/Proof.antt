@@ -48,15 +48,12 @@ turn c =
     let second = a .second .now in
     rw (joint-next (a .b .states) (a .k) (arcOf (drop (a .from) first)) (letter .result) (letter-at first (a .from) ∙ ap letterOf (sym (letter .ensures .0))) (l .loop .inv .1) (a .b) second (a .b .arcs) (l .loop .i) (l .loop .other) (c .before .before .if2 .taken) (c .if3 .taken ∙ c .before .byte2 .ensures .0)) at (l .loop .inv .3)
 
--- src/joint.rt:59:30
 add-byte : tie.Need-add-byte Inv-loop μ-loop
 add-byte c = omega (arith, c .before .before .before .pre .0)
 
--- src/joint.rt:59:9
 byte-requires : tie.Need-byte-requires Inv-loop μ-loop
 byte-requires c κs = omega (arith, c .before .before .before .pre .0)
 
--- src/joint.rt:61:9
 returns : tie.Need-returns Inv-loop μ-loop
 unfolding arcsBytes
 returns c =
@@ -65,17 +62,14 @@ returns c =
     let none = joint-nothing (a .b .states) (a .k) (automatonOf (a .second .now) .arcs) (arcOf (drop (a .from) (a .first .now))) _ (letter-at (a .first .now) (a .from)) (sym (c .before .byte .ensures .0) ∙ c .if1 .taken) in
     rw none (left-none (left-all (rw none at (s .pre .6))))
 
--- src/joint.rt:64:21
 add-other : tie.Need-add-other Inv-loop μ-loop
 add-other c = omega (arith, valid-ranges _ _ (c .before .before .before .before .before .before .pre .1) .letters)
 
--- src/joint.rt:64:21
 add-other-2 : tie.Need-add-other-2 Inv-loop μ-loop
 add-other-2 c =
     let r = valid-ranges _ _ (c .before .before .before .before .before .before .before .pre .1) in
     omega (arith, r .letters, r .states)
 
--- src/joint.rt:66:5
 loop-holds : tie.Need-loop-holds Inv-loop μ-loop
 loop-holds c =
     let s = c .before .before .before .before .before .before .before in
@@ -83,15 +77,12 @@ loop-holds c =
     let e : m - 0 ≡ m = omega arith in
     (omega arith, c .before .before .if1 .left, rw e (walk-start _ _ (s .pre .1)), rw e (left-all (rw (valid-arcs _ _ (s .pre .1)) at (s .pre .6))))
 
--- src/joint.rt:67:35
 add-byte-2 : tie.Need-add-byte-2 Inv-loop μ-loop
 add-byte-2 c = omega (arith, here c .whole)
 
--- src/joint.rt:67:22
 byte-requires-2 : tie.Need-byte-requires-2 Inv-loop μ-loop
 byte-requires-2 c κs = omega (arith, here c .whole)
 
--- src/joint.rt:68:13
 write-joint-requires : tie.Need-write-joint-requires Inv-loop μ-loop
 write-joint-requires c κs =
     let t = c .before in
@@ -111,23 +102,18 @@ write-joint-requires c κs =
       room,
     )
 
--- src/joint.rt:70:18
 arc-size-requires : tie.Need-arc-size-requires Inv-loop μ-loop
 arc-size-requires c κs = omega (arith, here (c .before .before) .whole)
 
--- src/joint.rt:70:9
 add-other-3 : tie.Need-add-other-3 Inv-loop μ-loop
 add-other-3 c = omega (arith, here (c .before .before .before) .whole, c .arc-size .ensures .0)
 
--- src/joint.rt:71:9
 add-i : tie.Need-add-i Inv-loop μ-loop
 add-i c = omega arith
 
--- src/joint.rt:66:5
 loop-less : tie.Need-loop-less Inv-loop μ-loop
 loop-less c = omega arith
 
--- src/joint.rt:66:5
 loop-again : tie.Need-loop-again Inv-loop μ-loop
 loop-again c =
     let test = c .before .before in
@@ -153,11 +139,9 @@ loop-again c =
     ))
     (c .before .if3 .came)
 
--- src/joint.rt:47:1
 same-length : tie.Need-same-length Inv-loop μ-loop
 same-length c = c .before .before .loop .inv .3 .size
 
--- src/joint.rt:47:1
 returns-2 : tie.Need-returns-2 Inv-loop μ-loop
 unfolding arcsBytes
 returns-2 c =

@@ -1,4 +1,4 @@
--- `arcs::operations_front` meets its contract: the place stays inside the slice. The measure is the number of bytes left.
+-- `listing::arcs::operations_front` meets its contract: the place stays inside the slice. The measure is the number of bytes left.
 use borrow.Author.Needs.{needs}
 use Prim.Native.Nat.{_≤_, _-_}
 use lib.ListN.{length}

@@ -1,4 +1,4 @@
--- `arcs::say_operations` meets its contract, which says nothing. The place stays inside the slice, so that the next one is a number.
+-- `listing::arcs::say_operations` meets its contract, which says nothing. The place stays inside the slice, so that the next one is a number.
 use borrow.Author.Needs.{needs}
 use Prim.Native.Nat.{_≤_, _-_}
 use lib.ListN.{length}

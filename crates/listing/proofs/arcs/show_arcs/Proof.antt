@@ -1,4 +1,4 @@
--- `arcs::show_arcs` meets its contract, which says nothing of its answer. The place stays inside the file; the measure is the number of arcs left.
+-- `listing::arcs::show_arcs` meets its contract, which says nothing of its answer. The place stays inside the file; the measure is the number of arcs left.
 use borrow.Author.Needs.{needs}
 use Prim.Native.Nat.{_≤_, _-_}
 use lib.ListN.{length}

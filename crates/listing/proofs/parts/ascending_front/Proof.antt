@@ -1,4 +1,4 @@
--- `parts::ascending_front` meets its contract: no more letters than there are.
+-- `listing::parts::ascending_front` meets its contract: no more letters than there are.
 use borrow.Author.Needs.{needs}
 use Prim.Native.Nat.{_≤_, _-_}
 use lib.ListN.{length}

@@ -1,4 +1,4 @@
--- `parts::flags_front` meets its contract: no more flags than there are.
+-- `listing::parts::flags_front` meets its contract: no more flags than there are.
 use borrow.Author.Needs.{needs}
 use Prim.Native.Nat.{_≤_, _-_}
 use lib.ListN.{length}

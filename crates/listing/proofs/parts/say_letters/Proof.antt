@@ -1,4 +1,4 @@
--- `parts::say_letters` meets its contract, which says nothing. The measure is the number of letters left.
+-- `listing::parts::say_letters` meets its contract, which says nothing. The measure is the number of letters left.
 use borrow.Author.Needs.{needs}
 use Prim.Native.Nat.{_-_}
 use lib.ListN.{length}

@@ -1,4 +1,4 @@
--- `parts::say_states` meets its contract, which says nothing. The measure is the number of states left.
+-- `listing::parts::say_states` meets its contract, which says nothing. The measure is the number of states left.
 use borrow.Author.Needs.{needs}
 use Prim.Native.Nat.{_-_}
 use lib.ListN.{length}

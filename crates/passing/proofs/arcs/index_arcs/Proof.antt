@@ -1,4 +1,4 @@
--- `explore::arcs::index_arcs` meets its contract. The loop's invariant: i places are left to note, and with them the list is whole (Indexing).
+-- `passing::arcs::index_arcs` meets its contract. The loop's invariant: i places are left to note, and with them the list is whole (Indexing).
 use native.Mathlib.Omega.{arith}
 use mathlib.Core.Path.{_≡_}
 use Prim.Native.Nat.{suc, _+_, _-_}

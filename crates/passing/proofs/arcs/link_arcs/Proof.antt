@@ -1,4 +1,4 @@
--- `explore::arcs::link_arcs` meets its contract. The loop's invariant: the first j entries are in the chains (Linking).
+-- `passing::arcs::link_arcs` meets its contract. The loop's invariant: the first j entries are in the chains (Linking).
 use native.Mathlib.Omega.{arith}
 use mathlib.Core.Path.{ap, _∙_}
 use Prim.Native.Nat.{ℕ, _-_}

@@ -1,4 +1,4 @@
--- `explore::operations::operate` meets its contract: the register is taken out of its four bits and put there.
+-- `passing::operations::operate` meets its contract: the register is taken out of its four bits and put there.
 use borrow.Author.Needs.{needs}
 use borrow.Author.Tests.{eq-eqb, ne-eqb}
 use native.Mathlib.Omega.{arith}

@@ -1,4 +1,4 @@
--- `explore::operations::operate_at` meets its contract: the two bytes are those of the file.
+-- `passing::operations::operate_at` meets its contract: the two bytes are those of the file.
 use borrow.Author.Needs.{needs}
 use Rattle.passing.proofs.operations.operate_at.Statement.{statement}
 use Rattle.passing.proofs.operations.operate_at.Tie as tie

@@ -1,4 +1,4 @@
--- `explore::operations::pass` meets its contract. The loop's invariant: the first k operations leave `regs`, and what is left gives the whole (Performing).
+-- `passing::operations::pass` meets its contract. The loop's invariant: the first k operations leave `regs`, and what is left gives the whole (Performing).
 use borrow.Author.Needs.{needs}
 use native.Mathlib.Omega.{arith}
 use mathlib.Core.Path.{sym}

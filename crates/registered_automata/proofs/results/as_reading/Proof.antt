@@ -1,4 +1,4 @@
--- `results::as_reading` meets its contract: the struct of each kind of answer.
+-- `registered_automata::results::as_reading` meets its contract: the struct of each kind of answer.
 use borrow.Author.Needs.{needs}
 use Rattle.registered_automata.proofs.results.as_reading.Statement.{statement}
 use Rattle.registered_automata.proofs.results.as_reading.Tie as tie

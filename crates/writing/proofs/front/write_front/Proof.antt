@@ -11,38 +11,30 @@ use Rattle.writing.proofs.parts.write_copy.Reads as write-copy-reads
 use Rattle.writing.proofs.parts.write_header.Reads as write-header-reads
 use Rattle.writing.proofs.FileParts.{header-length, lent-letters, valid-alphabet}
 
--- src/front.rt:21:9
 write-header-requires : tie.Need-write-header-requires
 write-header-requires c κs = search needs
 
--- src/front.rt:22:15
 add-end : tie.Need-add-end
 add-end c = search needs
 
--- src/front.rt:23:25
 sub-write-copy : tie.Need-sub-write-copy
 sub-write-copy c = search needs
 
--- src/front.rt:23:25
 part-write-copy-start : tie.Need-part-write-copy-start
 part-write-copy-start c = search needs
 
--- src/front.rt:23:25
 part-write-copy-end : tie.Need-part-write-copy-end
 part-write-copy-end c = omega (arith, file-seen _ _ (c .before .before .before .before .before .before .before .before .pre .1) .there)
 
--- src/front.rt:23:5
 write-copy-requires : tie.Need-write-copy-requires
 write-copy-requires c κs =
     let h = c .before .before .before .before .before .write-header .ensures in
     let s = c .before .before .before .before .before .before .before .before .before in
     simp (length-take, length-drop) (omega (arith, h .behind, appended-length h, header-length (s .args .c), s .pre .2))
 
--- src/front.rt:17:1
 same-length : tie.Need-same-length
 same-length c = search needs
 
--- src/front.rt:17:1
 returns : tie.Need-returns
 returns c =
     let h = c .before .before .before .before .before .before .before .before in

@@ -6,19 +6,15 @@ use Rattle.writing.proofs.parts.write_byte.Tie as tie
 use Rattle.writing.proofs.parts.write_byte.Reads as reads
 use Rattle.writing.proofs.parts.write_byte.Lts as lts
 
--- src/parts.rt:16:5
 slice-write-out : tie.Need-slice-write-out
 slice-write-out c = search needs
 
--- src/parts.rt:17:5
 add-result : tie.Need-add-result
 add-result c = search needs
 
--- src/parts.rt:12:1
 same-length : tie.Need-same-length
 same-length c = search needs
 
--- src/parts.rt:12:1
 returns : tie.Need-returns
 returns c = let a = c .args in stored (a .byte ∷ []) (a .out .now) (a .at) (c .pre)
 

@@ -18,31 +18,24 @@ Inv-loop out₀ at part i₀ out i = (i ≤ length part) × Left at part out₀ 
 abbrev μ-loop : tie.MeasureT-loop
 μ-loop out₀ at part i₀ out i = length part - i
 
--- src/parts.rt:62:5
 loop-holds : tie.Need-loop-holds Inv-loop μ-loop
 loop-holds c = (omega arith, rw add-zero (left-all (c .pre)))
 
--- src/parts.rt:63:23
 shared-slice-read-out : tie.Need-shared-slice-read-out Inv-loop μ-loop
 shared-slice-read-out c = omega arith
 
--- src/parts.rt:63:13
 add-out : tie.Need-add-out Inv-loop μ-loop
 add-out c = omega arith
 
--- src/parts.rt:63:9
 slice-write-out : tie.Need-slice-write-out Inv-loop μ-loop
 slice-write-out c = omega (arith, c .before .before .loop .inv .1 .size)
 
--- src/parts.rt:64:9
 add-i : tie.Need-add-i Inv-loop μ-loop
 add-i c = omega arith
 
--- src/parts.rt:62:5
 loop-less : tie.Need-loop-less Inv-loop μ-loop
 loop-less c = omega arith
 
--- src/parts.rt:62:5
 loop-again : tie.Need-loop-again Inv-loop μ-loop
 loop-again c =
     let l = c .before .before .loop in
@@ -52,15 +45,12 @@ loop-again c =
     let d : drop (l .i) part ≡ getD part (l .i) 0 ∷ drop (l .i + 1) part = rw add-one (drop-cons part (l .i) 0 (omega arith)) in
     (omega arith, rw e (left-byte (getD part (l .i) 0) (drop (l .i + 1) part) (rw d at (l .inv .1))))
 
--- src/parts.rt:66:5
 add-result : tie.Need-add-result Inv-loop μ-loop
 add-result c = omega arith
 
--- src/parts.rt:57:1
 same-length : tie.Need-same-length Inv-loop μ-loop
 same-length c = c .before .loop .inv .1 .size
 
--- src/parts.rt:57:1
 returns : tie.Need-returns Inv-loop μ-loop
 returns c =
     let l = c .before .loop in

@@ -10,35 +10,27 @@ use Rattle.writing.proofs.parts.write_double.Tie as tie
 use Rattle.writing.proofs.parts.write_double.Reads as reads
 use Rattle.writing.proofs.parts.write_double.Lts as lts
 
--- src/parts.rt:25:15
 cast-out : tie.Need-cast-out
 cast-out c = search needs
 
--- src/parts.rt:25:5
 slice-write-out : tie.Need-slice-write-out
 slice-write-out c = search needs
 
--- src/parts.rt:26:19
 cast-out-2 : tie.Need-cast-out-2
 cast-out-2 c = search needs
 
--- src/parts.rt:26:9
 add-out : tie.Need-add-out
 add-out c = search needs
 
--- src/parts.rt:26:5
 slice-write-out-2 : tie.Need-slice-write-out-2
 slice-write-out-2 c = simp length-set (omega arith)
 
--- src/parts.rt:27:5
 add-result : tie.Need-add-result
 add-result c = search needs
 
--- src/parts.rt:21:1
 same-length : tie.Need-same-length
 same-length c = search needs
 
--- src/parts.rt:21:1
 returns : tie.Need-returns
 returns c = let a = c .args in rw add-one (stored ((a .number % 256) ∷ (a .number / 256) ∷ []) (a .out .now) (a .at) (c .pre .1))
 

@@ -10,39 +10,30 @@ use Rattle.writing.proofs.parts.write_byte.Reads as write-byte-reads
 use Rattle.writing.proofs.parts.write_double.Reads as write-double-reads
 use Rattle.writing.proofs.parts.write_mark.Reads as write-mark-reads
 
--- src/parts.rt:48:9
 write-mark-requires : tie.Need-write-mark-requires
 write-mark-requires c κs = search needs
 
--- src/parts.rt:49:43
 cast-write-byte : tie.Need-cast-write-byte
 cast-write-byte c = search needs
 
--- src/parts.rt:49:9
 write-byte-requires : tie.Need-write-byte-requires
 write-byte-requires c κs = search needs
 
--- src/parts.rt:50:9
 write-double-requires : tie.Need-write-double-requires
 write-double-requires c κs = search needs
 
--- src/parts.rt:51:46
 cast-write-byte-2 : tie.Need-cast-write-byte-2
 cast-write-byte-2 c = search needs
 
--- src/parts.rt:51:9
 write-byte-requires-2 : tie.Need-write-byte-requires-2
 write-byte-requires-2 c κs = search needs
 
--- src/parts.rt:52:41
 cast-write-byte-3 : tie.Need-cast-write-byte-3
 cast-write-byte-3 c = search needs
 
--- src/parts.rt:52:9
 write-byte-requires-3 : tie.Need-write-byte-requires-3
 write-byte-requires-3 c κs = search needs
 
--- src/parts.rt:53:5
 write-double-requires-2 : tie.Need-write-double-requires-2
 write-double-requires-2 c κs =
     let symbols = c .before .before .before in
@@ -58,11 +49,9 @@ write-double-requires-2 c κs =
     (symbols .write-byte3 .ensures)))) in
     (omega (arith, start .pre .0 .arcs), omega (arith, start .pre .1, front .behind, appended-length front))
 
--- src/parts.rt:44:1
 same-length : tie.Need-same-length
 same-length c = search needs
 
--- src/parts.rt:44:1
 returns : tie.Need-returns
 unfolding headerBytes
 returns c =

@@ -9,51 +9,39 @@ use Rattle.writing.proofs.parts.write_mark.Tie as tie
 use Rattle.writing.proofs.parts.write_mark.Reads as reads
 use Rattle.writing.proofs.parts.write_mark.Lts as lts
 
--- src/parts.rt:35:5
 slice-write-out : tie.Need-slice-write-out
 slice-write-out c = search needs
 
--- src/parts.rt:36:9
 add-out : tie.Need-add-out
 add-out c = search needs
 
--- src/parts.rt:36:5
 slice-write-out-2 : tie.Need-slice-write-out-2
 slice-write-out-2 c = simp length-set (omega arith)
 
--- src/parts.rt:37:9
 add-out-2 : tie.Need-add-out-2
 add-out-2 c = search needs
 
--- src/parts.rt:37:5
 slice-write-out-3 : tie.Need-slice-write-out-3
 slice-write-out-3 c = simp length-set (omega arith)
 
--- src/parts.rt:38:9
 add-out-3 : tie.Need-add-out-3
 add-out-3 c = search needs
 
--- src/parts.rt:38:5
 slice-write-out-4 : tie.Need-slice-write-out-4
 slice-write-out-4 c = simp length-set (omega arith)
 
--- src/parts.rt:39:9
 add-out-4 : tie.Need-add-out-4
 add-out-4 c = search needs
 
--- src/parts.rt:39:5
 slice-write-out-5 : tie.Need-slice-write-out-5
 slice-write-out-5 c = simp length-set (omega arith)
 
--- src/parts.rt:40:5
 add-result : tie.Need-add-result
 add-result c = search needs
 
--- src/parts.rt:31:1
 same-length : tie.Need-same-length
 same-length c = search needs
 
--- src/parts.rt:31:1
 returns : tie.Need-returns
 returns c = let a = c .args in rw (add-one, add-two, add-three, add-four) (stored (0x4D ∷ 0x4C ∷ 0x42 ∷ 1 ∷ 0 ∷ []) (a .out .now) (a .at) (c .pre))
 

@@ -15,30 +15,24 @@ Inv-loop out₀ at n i₀ out i = (i ≤ n) × Left at (replicate n 0) out₀ (a
 abbrev μ-loop : tie.MeasureT-loop
 μ-loop out₀ at n i₀ out i = n - i
 
--- src/parts.rt:75:5
 loop-holds : tie.Need-loop-holds Inv-loop μ-loop
 loop-holds c =
     let n = c .args .n in
     let e : n - 0 ≡ n = omega arith in
     (omega arith, rw (add-zero, e) (left-all (rw length-replicate (c .pre))))
 
--- src/parts.rt:76:13
 add-out : tie.Need-add-out Inv-loop μ-loop
 add-out c = omega arith
 
--- src/parts.rt:76:9
 slice-write-out : tie.Need-slice-write-out Inv-loop μ-loop
 slice-write-out c = omega (arith, c .before .loop .inv .1 .size, c .before .before .pre)
 
--- src/parts.rt:77:9
 add-i : tie.Need-add-i Inv-loop μ-loop
 add-i c = omega arith
 
--- src/parts.rt:75:5
 loop-less : tie.Need-loop-less Inv-loop μ-loop
 loop-less c = omega arith
 
--- src/parts.rt:75:5
 loop-again : tie.Need-loop-again Inv-loop μ-loop
 loop-again c =
     let l = c .before .loop in
@@ -47,15 +41,12 @@ loop-again c =
     let d : a .n - l .i ≡ suc (a .n - (l .i + 1)) = omega arith in
     (omega arith, rw e (left-byte 0 (replicate (a .n - (l .i + 1)) 0) (rw d at (l .inv .1))))
 
--- src/parts.rt:79:5
 add-result : tie.Need-add-result Inv-loop μ-loop
 add-result c = omega arith
 
--- src/parts.rt:70:1
 same-length : tie.Need-same-length Inv-loop μ-loop
 same-length c = c .before .loop .inv .1 .size
 
--- src/parts.rt:70:1
 returns : tie.Need-returns Inv-loop μ-loop
 returns c =
     let l = c .before .loop in
