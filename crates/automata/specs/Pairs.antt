@@ -6,7 +6,7 @@ use mathlib.Core.Logic.{_↔_, _⊎_}
 use Prim.Native.Nat.{ℕ, _≤_}
 use mathlib.Core.List.{List, []}
 use mathlib.Core.Option.{Option, none, some}
-use mathlib.Core.Bool.{Bool, true, false, _&&_, not, Bool·beq, cond}
+use mathlib.Core.Bool.{Bool, _&&_, not, Bool·beq, cond}
 use lib.ListN.{length}
 use Rattle.automata.specs.Lists.{sameBy}
 use Rattle.automata.specs.Automaton.{Automaton, letters, Accepts}

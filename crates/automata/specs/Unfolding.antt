@@ -1,7 +1,7 @@
 -- Unfolding: the configurations of an automaton, numbered; its plain arcs; the automaton without registers that they make.
 -- Renders document 01, 'Unfolding': configurations are walked in number order, arcs in file order, each new target gets the
 -- next number, each passing arc gives one plain arc. n is a limit on the walk; document 01's is 256.
-use Prim.Native.Nat.{ℕ, zero, suc}
+use Prim.Native.Nat.{ℕ, suc}
 use mathlib.Core.List.{List, [], _∷_, _++_, map}
 use mathlib.Core.Option.{Option, none, some}
 use mathlib.Core.Bool.{Bool, false, _&&_}

@@ -1,9 +1,9 @@
 -- Following: along the chain of a letter, what has joined, with the arcs that are left, gives the whole.
-use mathlib.Core.Path.{_∙_, _≡_, ap, subst, sym}
+use mathlib.Core.Path.{_∙_, _≡_, subst, sym}
 use mathlib.Core.Logic.{_↔_, _⊎_, inl, inr, ⊎-elim}
 use mathlib.Core.Bool.{_||_, false}
 use mathlib.Core.List.{List}
-use Prim.Native.Nat.{_%_, _+_, _/_, _<_, _≤_, ℕ}
+use Prim.Native.Nat.{_%_, _+_, _<_, _≤_, ℕ}
 use native.Mathlib.Decide.{decLt, ℕ-discrete}
 use native.Mathlib.Omega.{arith}
 use lib.Dec.{T}
@@ -14,7 +14,7 @@ use Rattle.memory.specs.Fields.{field}
 use Rattle.memory.proofs.Laws.{OnChain, last-is, off-chain, on-chain}
 use Rattle.sets.specs.Rows.{related}
 use Rattle.sets.specs.Sets.{inSet}
-use Rattle.stepping.specs.Stepping.{Among, FromList}
+use Rattle.stepping.specs.Stepping.{FromList}
 use Rattle.stepping.proofs.Onward.{Onward}
 use Rattle.letter_chains.specs.Lettered.{Followable, LetterChain, Sourced, byteOf, letterHeads, letterNexts, sourceOf}
 

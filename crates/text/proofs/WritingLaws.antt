@@ -7,7 +7,7 @@ use native.Mathlib.Numerals.{add-one}
 use native.Mathlib.Nat.{add-assoc, add-zero}
 use mathlib.Core.List.{List, [], _∷_, _++_, append-assoc, append-nil}
 use lib.ListN.{getD, length, take, drop, set, length-append}
-use lib.Seq.{append-snoc, drop-drop, drop-paste, length-paste, paste, paste-zero, set-split, take-all, take-append-add, take-append-le, take-length, take-paste, take-suc}
+use lib.Seq.{append-snoc, drop-drop, drop-paste, length-paste, paste, paste-zero, set-split, take-all, take-append-add, take-append-le, take-paste, take-suc}
 use Rattle.text.specs.Writing.{fitting, Writes}
 
 -- ---- one part

@@ -1,7 +1,6 @@
 // The parts of a file before its arcs: single bytes, the header, letters and flags copied from another file.
-ghost use mathlib.Core.Path.{_≡_};
 ghost use mathlib.Core.List.{_∷_, []};
-ghost use Prim.Native.Nat.{_+_, _*_, _/_, _%_, _<_, _≤_};
+ghost use Prim.Native.Nat.{_+_, _/_, _%_, _<_, _≤_};
 ghost use lib.ListN.{length, replicate};
 ghost use Rattle.format.specs.Encoding.{headerBytes};
 ghost use Rattle.format.specs.Limits.{Ranges};

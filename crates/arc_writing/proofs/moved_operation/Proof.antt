@@ -1,14 +1,10 @@
+-- `arc_writing::moved_operation` meets its contract.
 use mathlib.Core.Path.{sym, _∙_}
 use native.Mathlib.Omega.{arith}
 use Rattle.arc_writing.proofs.ArcBytes.{read-moved, write-moved}
 use borrow.Author.Needs.{needs}
 use Rattle.arc_writing.proofs.moved_operation.Statement.{statement}
 use Rattle.arc_writing.proofs.moved_operation.Tie as tie
-use Rattle.arc_writing.proofs.moved_operation.Reads as reads
-use Rattle.arc_writing.proofs.moved_operation.Lts as lts
-use Rattle.file_parts.proofs.fields.operation_kind.Reads as operation-kind-reads
-use Rattle.file_parts.proofs.fields.operation_register.Reads as operation-register-reads
-use Rattle.arc_writing.proofs.moved_register.Reads as moved-register-reads
 
 operation-register-requires : tie.Need-operation-register-requires
 operation-register-requires c κs = search needs

@@ -1,11 +1,10 @@
+-- `arc_writing::moved_register` meets its contract.
 use mathlib.Core.Path.{sym}
 use native.Mathlib.Omega.{arith}
 use Rattle.arc_writing.proofs.ArcBytes.{register-moved}
 use borrow.Author.Needs.{needs}
 use Rattle.arc_writing.proofs.moved_register.Statement.{statement}
 use Rattle.arc_writing.proofs.moved_register.Tie as tie
-use Rattle.arc_writing.proofs.moved_register.Reads as reads
-use Rattle.arc_writing.proofs.moved_register.Lts as lts
 
 add-result : tie.Need-add-result
 add-result c = search needs

@@ -1,3 +1,4 @@
+-- `arc_writing::write_arc` meets its contract.
 use mathlib.Core.Path.{_≡_, refl}
 use mathlib.Core.List.{map}
 use Prim.Native.Nat.{_+_, _*_}
@@ -11,10 +12,6 @@ use Rattle.arc_writing.proofs.ArcBytes.{moved-ops-count, moved-ops-leng
 use borrow.Author.Needs.{needs}
 use Rattle.arc_writing.proofs.write_arc.Statement.{statement}
 use Rattle.arc_writing.proofs.write_arc.Tie as tie
-use Rattle.arc_writing.proofs.write_arc.Reads as reads
-use Rattle.arc_writing.proofs.write_arc.Lts as lts
-use Rattle.arc_writing.proofs.write_fields.Reads as write-fields-reads
-use Rattle.arc_writing.proofs.write_ops.Reads as write-ops-reads
 
 write-fields-requires : tie.Need-write-fields-requires
 write-fields-requires c κs = search needs

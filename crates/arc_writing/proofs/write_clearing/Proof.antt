@@ -1,3 +1,4 @@
+-- `arc_writing::write_clearing` meets its contract.
 use mathlib.Core.Path.{_≡_}
 use mathlib.Core.List.{_∷_}
 use Prim.Native.Nat.{_+_, _-_, _*_, _≤_}
@@ -8,8 +9,6 @@ use Rattle.writing.proofs.Placed.{Left, left-all, left-byte, left-none}
 use Rattle.arc_writing.proofs.ArcBytes.{cleared, cleared-at, cleared-end, cleared-length}
 use Rattle.arc_writing.proofs.write_clearing.Statement.{statement}
 use Rattle.arc_writing.proofs.write_clearing.Tie as tie
-use Rattle.arc_writing.proofs.write_clearing.Reads as reads
-use Rattle.arc_writing.proofs.write_clearing.Lts as lts
 
 abbrev Inv-loop : tie.InvT-loop
 Inv-loop out₀ p i₀ out i = (i ≤ p) × Left 0 (opsBytes (cleared 1 p)) out₀ (2 * i) (opsBytes (cleared (1 + i) (p - i))) out

@@ -1,3 +1,4 @@
+-- `arc_writing::write_clearing_arc` meets its contract.
 use mathlib.Core.Path.{_≡_, refl, ap, _∙_}
 use Prim.Native.Nat.{_+_, _-_, _*_}
 use native.Mathlib.Omega.{arith}
@@ -8,11 +9,6 @@ use Rattle.arc_writing.proofs.ArcBytes.{cleared, cleared-count, cleared
 use borrow.Author.Needs.{needs}
 use Rattle.arc_writing.proofs.write_clearing_arc.Statement.{statement}
 use Rattle.arc_writing.proofs.write_clearing_arc.Tie as tie
-use Rattle.arc_writing.proofs.write_clearing_arc.Reads as reads
-use Rattle.arc_writing.proofs.write_clearing_arc.Lts as lts
-use Rattle.arc_writing.proofs.write_clearing.Reads as write-clearing-reads
-use Rattle.arc_writing.proofs.write_fields.Reads as write-fields-reads
-use Rattle.arc_writing.proofs.write_plain_arc.Reads as write-plain-arc-reads
 
 write-plain-arc-requires : tie.Need-write-plain-arc-requires
 write-plain-arc-requires c κs =

@@ -1,3 +1,4 @@
+-- `arc_writing::write_fields` meets its contract.
 use mathlib.Core.List.{[], _∷_}
 use native.Mathlib.Numerals.{add-one, add-two, add-three}
 use native.Mathlib.Omega.{arith}
@@ -6,8 +7,6 @@ use Rattle.writing.proofs.Placed.{stored}
 use borrow.Author.Needs.{needs}
 use Rattle.arc_writing.proofs.write_fields.Statement.{statement}
 use Rattle.arc_writing.proofs.write_fields.Tie as tie
-use Rattle.arc_writing.proofs.write_fields.Reads as reads
-use Rattle.arc_writing.proofs.write_fields.Lts as lts
 
 cast-out : tie.Need-cast-out
 cast-out c = search needs

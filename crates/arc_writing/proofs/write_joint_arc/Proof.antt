@@ -1,3 +1,4 @@
+-- `arc_writing::write_joint_arc` meets its contract.
 use mathlib.Core.Path.{_≡_, ap, ap₂, _∙_}
 use mathlib.Core.List.{_++_, map}
 use Prim.Native.Nat.{ℕ, _+_, _*_}
@@ -13,10 +14,6 @@ use Rattle.arc_writing.proofs.ArcBytes.{ops-unmoved, moved-ops-count, m
 use borrow.Author.Needs.{needs}
 use Rattle.arc_writing.proofs.write_joint_arc.Statement.{statement}
 use Rattle.arc_writing.proofs.write_joint_arc.Tie as tie
-use Rattle.arc_writing.proofs.write_joint_arc.Reads as reads
-use Rattle.arc_writing.proofs.write_joint_arc.Lts as lts
-use Rattle.arc_writing.proofs.write_fields.Reads as write-fields-reads
-use Rattle.arc_writing.proofs.write_ops.Reads as write-ops-reads
 
 add-write-fields : tie.Need-add-write-fields
 add-write-fields c = search needs

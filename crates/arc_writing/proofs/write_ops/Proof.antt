@@ -1,3 +1,4 @@
+-- `arc_writing::write_ops` meets its contract.
 use mathlib.Core.Path.{_≡_}
 use mathlib.Core.List.{_∷_, map}
 use Prim.Native.Nat.{_+_, _-_, _*_, _≤_}
@@ -10,10 +11,6 @@ use Rattle.writing.proofs.Placed.{Left, left-all, left-at, left-byte, left-none
 use Rattle.arc_writing.proofs.ArcBytes.{moved-ops-at, moved-ops-end, moved-ops-length}
 use Rattle.arc_writing.proofs.write_ops.Statement.{statement}
 use Rattle.arc_writing.proofs.write_ops.Tie as tie
-use Rattle.arc_writing.proofs.write_ops.Reads as reads
-use Rattle.arc_writing.proofs.write_ops.Lts as lts
-use Rattle.file_parts.proofs.fields.byte.Reads as byte-reads
-use Rattle.arc_writing.proofs.moved_operation.Reads as moved-operation-reads
 
 abbrev Inv-loop : tie.InvT-loop
 Inv-loop out₀ ops p k i₀ out i = (i ≤ p) × Left 0 (opsBytes (map (movedOp k) (opsOf p ops))) out₀ (2 * i) (opsBytes (map (movedOp k) (opsOf (p - i) (drop (2 * i) ops)))) out

@@ -1,3 +1,4 @@
+-- `arc_writing::write_plain_arc` meets its contract.
 use mathlib.Core.Path.{_≡_, refl}
 use Prim.Native.Nat.{_+_}
 use native.Mathlib.Omega.{arith}

@@ -1,3 +1,4 @@
+-- `arc_writing::write_read` meets its contract.
 use mathlib.Core.List.{[], _∷_}
 use borrow.Author.Needs.{needs}
 use Rattle.format.specs.Encoding.{opsBytes}

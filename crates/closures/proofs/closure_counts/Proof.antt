@@ -1,9 +1,8 @@
+-- `closures::closure_counts` meets its contract.
 use borrow.Author.Needs.{needs}
 use Rattle.closures.proofs.closure_counts.Statement.{statement}
 use Rattle.closures.proofs.ClosureBytes.{closure-counts}
 use Rattle.closures.proofs.closure_counts.Tie as tie
-use Rattle.closures.proofs.closure_counts.Reads as reads
-use Rattle.closures.proofs.closure_counts.Lts as lts
 
 add-t3 : tie.Need-add-t3
 add-t3 c = search needs

@@ -1,3 +1,4 @@
+-- `closures::repeat` meets its contract.
 use mathlib.Core.Path.{_∙_, _≡_, ap, ap₂, sym}
 use Prim.Native.Nat.{_*_, _+_, _≤_, ℕ}
 use native.Mathlib.Nat.{le-trans, mul-le-mul-left, mul-le-mul-right}
@@ -17,14 +18,6 @@ use Rattle.closures.proofs.ClosureFits.{closure-fits, closure-ops}
 use Rattle.joining.proofs.AnswerLaws.{decided-written, written-bytes}
 use Rattle.joining.proofs.FinalLaws.{valid-lengths}
 use Rattle.closures.proofs.repeat.Tie as tie
-use Rattle.closures.proofs.repeat.Reads as reads
-use Rattle.closures.proofs.repeat.Lts as lts
-use Rattle.joining.proofs.answer.arcs_size.Reads as arcs-size-reads
-use Rattle.joining.proofs.answer.decide.Reads as decide-reads
-use Rattle.closures.proofs.closure_counts.Reads as closure-counts-reads
-use Rattle.closures.proofs.return_size.Reads as return-size-reads
-use Rattle.closures.proofs.write_closure.Reads as write-closure-reads
-use Rattle.joining.proofs.finals.count_finals.Reads as count-finals-reads
 use Rattle.writing.proofs.FileParts.{file-written}
 
 -- the automaton, and the counts of its closure

@@ -1,3 +1,4 @@
+-- `closures::return_size` meets its contract.
 use mathlib.Core.Path.{ap}
 use Prim.Native.Nat.{_-_}
 use native.Mathlib.Omega.{arith}
@@ -6,8 +7,6 @@ use lib.ListN.{length}
 use Rattle.arc_writing.proofs.ArcBytes.{cleared-count, clearing-few, clearing-more}
 use Rattle.closures.proofs.return_size.Statement.{statement}
 use Rattle.closures.proofs.return_size.Tie as tie
-use Rattle.closures.proofs.return_size.Reads as reads
-use Rattle.closures.proofs.return_size.Lts as lts
 
 mul-result : tie.Need-mul-result
 mul-result c = search needs

@@ -1,3 +1,4 @@
+-- `closures::write_closure` meets its contract.
 use mathlib.Core.Path.{_≡_, ap, subst}
 use mathlib.Core.List.{[], _++_, _∷_, map}
 use Prim.Native.Nat.{_+_, _≤_}
@@ -15,12 +16,6 @@ use Rattle.closures.proofs.write_closure.Statement.{statement}
 use Rattle.closures.proofs.ClosureBytes.{closure-counts, closure-parts}
 use Rattle.joining.proofs.FinalLaws.{flags-end, valid-lengths}
 use Rattle.closures.proofs.write_closure.Tie as tie
-use Rattle.closures.proofs.write_closure.Reads as reads
-use Rattle.closures.proofs.write_closure.Lts as lts
-use Rattle.closures.proofs.write_closure_arcs.Reads as write-closure-arcs-reads
-use Rattle.joining.proofs.flags.write_flags.Reads as write-flags-reads
-use Rattle.writing.proofs.front.write_front.Reads as write-front-reads
-use Rattle.writing.proofs.parts.write_byte.Reads as write-byte-reads
 use Rattle.writing.proofs.FileParts.{front-ends, header-length}
 
 -- the parts, and room for them

@@ -1,3 +1,4 @@
+-- `closures::write_closure_arcs` meets its contract.
 use mathlib.Core.Path.{_≡_, ap}
 use mathlib.Core.List.{_++_, map}
 use native.Mathlib.Omega.{arith}
@@ -15,11 +16,6 @@ use Rattle.closures.proofs.ClosureBytes.{closure-arc-parts}
 use Rattle.joining.proofs.Walking.{entry-length}
 use Rattle.joining.proofs.FinalLaws.{returning}
 use Rattle.closures.proofs.write_closure_arcs.Tie as tie
-use Rattle.closures.proofs.write_closure_arcs.Reads as reads
-use Rattle.closures.proofs.write_closure_arcs.Lts as lts
-use Rattle.joining.proofs.finals.write_final_arcs.Reads as write-final-arcs-reads
-use Rattle.joining.proofs.groups.write_entry.Reads as write-entry-reads
-use Rattle.joining.proofs.groups.write_moved_arcs.Reads as write-moved-arcs-reads
 
 -- the parts
 abbrev parts : (s : tie.Start) → let x = automatonOf (s .args .file .now) in

@@ -1,3 +1,4 @@
+-- `concatenations::append` meets its contract.
 use mathlib.Core.Path.{_∙_, _≡_, ap, sym, refl}
 use Prim.Native.Nat.{_*_, _+_, _≤_}
 use native.Mathlib.Omega.{arith}
@@ -16,13 +17,6 @@ use Rattle.concatenations.proofs.append.Statement.{statement}
 use Rattle.concatenations.proofs.ConcatenationBytes.{concatenation-counts, concatenation-length}
 use Rattle.concatenations.proofs.ConcatenationFits.{concatenation-fits, concatenation-ops}
 use Rattle.concatenations.proofs.append.Tie as tie
-use Rattle.concatenations.proofs.append.Reads as reads
-use Rattle.concatenations.proofs.append.Lts as lts
-use Rattle.concatenations.proofs.concatenation_counts.Reads as concatenation-counts-reads
-use Rattle.concatenations.proofs.write_concatenation.Reads as write-concatenation-reads
-use Rattle.joining.proofs.answer.arcs_size.Reads as arcs-size-reads
-use Rattle.joining.proofs.answer.decide.Reads as decide-reads
-use Rattle.joining.proofs.finals.count_finals.Reads as count-finals-reads
 use Rattle.writing.proofs.FileParts.{file-written}
 
 -- the automata, and the counts of their concatenation

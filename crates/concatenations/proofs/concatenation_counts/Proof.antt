@@ -1,10 +1,8 @@
+-- `concatenations::concatenation_counts` meets its contract.
 use borrow.Author.Needs.{needs}
 use Rattle.concatenations.proofs.concatenation_counts.Statement.{statement}
 use Rattle.concatenations.proofs.ConcatenationBytes.{concatenation-counts}
 use Rattle.concatenations.proofs.concatenation_counts.Tie as tie
-use Rattle.concatenations.proofs.concatenation_counts.Reads as reads
-use Rattle.concatenations.proofs.concatenation_counts.Lts as lts
-use Rattle.joining.proofs.answer.larger.Reads as larger-reads
 
 add-t4 : tie.Need-add-t4
 add-t4 c = search needs

@@ -1,3 +1,4 @@
+-- `concatenations::write_concatenation` meets its contract.
 use mathlib.Core.Path.{_≡_, ap, subst, refl}
 use mathlib.Core.List.{List, _++_, map}
 use Prim.Native.Nat.{_+_, _≤_, ℕ}
@@ -16,12 +17,6 @@ use Rattle.joining.proofs.FinalLaws.{flags-end, valid-lengths}
 use Rattle.concatenations.proofs.write_concatenation.Statement.{statement}
 use Rattle.concatenations.proofs.ConcatenationBytes.{concatenation-counts, concatenation-parts}
 use Rattle.concatenations.proofs.write_concatenation.Tie as tie
-use Rattle.concatenations.proofs.write_concatenation.Reads as reads
-use Rattle.concatenations.proofs.write_concatenation.Lts as lts
-use Rattle.concatenations.proofs.write_concatenation_arcs.Reads as write-concatenation-arcs-reads
-use Rattle.joining.proofs.flags.write_flags.Reads as write-flags-reads
-use Rattle.writing.proofs.front.write_front.Reads as write-front-reads
-use Rattle.writing.proofs.parts.write_zeros.Reads as write-zeros-reads
 use Rattle.writing.proofs.FileParts.{front-ends, header-length}
 
 -- the parts, and room for them

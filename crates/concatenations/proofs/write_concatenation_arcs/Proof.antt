@@ -1,3 +1,4 @@
+-- `concatenations::write_concatenation_arcs` meets its contract.
 use mathlib.Core.Path.{_≡_, ap}
 use mathlib.Core.List.{_++_, map}
 use Prim.Native.Nat.{_*_, _+_, _-_, _≤_}
@@ -16,10 +17,6 @@ use Rattle.joining.proofs.Walking.{arcs-moved-length}
 use Rattle.concatenations.proofs.write_concatenation_arcs.Statement.{statement}
 use Rattle.concatenations.proofs.ConcatenationBytes.{concatenation-arc-parts, concatenation-arcs-length, moves-length}
 use Rattle.concatenations.proofs.write_concatenation_arcs.Tie as tie
-use Rattle.concatenations.proofs.write_concatenation_arcs.Reads as reads
-use Rattle.concatenations.proofs.write_concatenation_arcs.Lts as lts
-use Rattle.joining.proofs.finals.write_final_arcs.Reads as write-final-arcs-reads
-use Rattle.joining.proofs.groups.write_moved_arcs.Reads as write-moved-arcs-reads
 
 -- the parts, and room for them
 abbrev parts : (s : tie.Start) → let x = automatonOf (s .args .first .now) in let y = automatonOf (s .args .second .now) in let n = s .args .a .states in

@@ -1,3 +1,4 @@
+-- `intersection::product` meets its contract.
 use mathlib.Core.Path.{_≡_, _∙_, ap, ap₂, sym, refl}
 use Prim.Native.Nat.{ℕ, _+_, _*_, _≤_}
 use native.Mathlib.Omega.{arith}
@@ -20,13 +21,6 @@ use Rattle.file_laws.proofs.EncodingLaws.{bytes-length}
 use Rattle.intersection.proofs.ManyOps.{large-refused, many-refused, none-many}
 use Rattle.intersection.proofs.product.Statement.{statement}
 use Rattle.intersection.proofs.product.Tie as tie
-use Rattle.intersection.proofs.product.Reads as reads
-use Rattle.intersection.proofs.product.Lts as lts
-use Rattle.pairing.proofs.count_arcs.Reads as count-arcs-reads
-use Rattle.intersection.proofs.product_counts.Reads as product-counts-reads
-use Rattle.intersection.proofs.write_product.Reads as write-product-reads
-use Rattle.joining.proofs.answer.decide.Reads as decide-reads
-use Rattle.joining.proofs.answer.is_beyond.Reads as is-beyond-reads
 use Rattle.writing.proofs.FileParts.{file-written}
 
 -- the intersection, its counts, and that these are small

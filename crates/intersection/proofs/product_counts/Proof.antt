@@ -1,3 +1,4 @@
+-- `intersection::product_counts` meets its contract.
 use mathlib.Core.Path.{ap}
 use native.Mathlib.Omega.{arith}
 use native.Mathlib.Nat.{mul-le-mul-left}
@@ -6,9 +7,6 @@ use Rattle.pairing.specs.Pairing.{withArcs}
 use Rattle.intersection.proofs.IntersectionBytes.{intersection-counts}
 use Rattle.intersection.proofs.product_counts.Statement.{statement}
 use Rattle.intersection.proofs.product_counts.Tie as tie
-use Rattle.intersection.proofs.product_counts.Reads as reads
-use Rattle.intersection.proofs.product_counts.Lts as lts
-use Rattle.joining.proofs.answer.larger.Reads as larger-reads
 
 mul-t4 : tie.Need-mul-t4
 mul-t4 c =

@@ -1,3 +1,4 @@
+-- `intersection::write_product` meets its contract.
 use mathlib.Core.Path.{_≡_, _∙_, ap, ap₂, subst}
 use mathlib.Core.List.{_++_, map}
 use Prim.Native.Nat.{ℕ, _+_, _*_, _≤_}
@@ -16,11 +17,6 @@ use Rattle.intersection.proofs.FlagLaws.{flags-length}
 use Rattle.intersection.proofs.IntersectionBytes.{intersection-parts, intersection-counts}
 use Rattle.intersection.proofs.write_product.Statement.{statement}
 use Rattle.intersection.proofs.write_product.Tie as tie
-use Rattle.intersection.proofs.write_product.Reads as reads
-use Rattle.intersection.proofs.write_product.Lts as lts
-use Rattle.intersection.proofs.finals.write_both_flags.Reads as write-both-flags-reads
-use Rattle.intersection.proofs.write_product_arcs.Reads as write-product-arcs-reads
-use Rattle.writing.proofs.front.write_front.Reads as write-front-reads
 
 -- the parts, and room for them
 abbrev parts : (s : tie.Start) → let x = automatonOf (s .args .first .now) in let y = automatonOf (s .args .second .now) in

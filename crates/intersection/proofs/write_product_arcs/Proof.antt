@@ -1,3 +1,4 @@
+-- `intersection::write_product_arcs` meets its contract.
 use mathlib.Core.Path.{_≡_, ap}
 use mathlib.Core.List.{_++_, flatMap}
 use Prim.Native.Nat.{_-_}
@@ -17,10 +18,6 @@ use Rattle.intersection.proofs.IntersectionBytes.{arc-parts, ofFirst, o
 use Rattle.joint_arcs.proofs.Numbering.{pair-below}
 use Rattle.intersection.proofs.write_product_arcs.Statement.{statement}
 use Rattle.intersection.proofs.write_product_arcs.Tie as tie
-use Rattle.intersection.proofs.write_product_arcs.Reads as reads
-use Rattle.intersection.proofs.write_product_arcs.Lts as lts
-use Rattle.joint_arcs.proofs.beside.write_empty_moves.Reads as write-empty-moves-reads
-use Rattle.joint_arcs.proofs.joint.write_joint_arcs.Reads as write-joint-arcs-reads
 
 -- the parts, and room for them
 abbrev parts : (s : tie.Start) → let x = automatonOf (s .args .first .now) in let y = automatonOf (s .args .second .now) in let m = s .args .a .states in let n = s .args .b .states in let k = s .args .a .registers - 1 in

@@ -1,3 +1,4 @@
+-- `join::close` meets its contract.
 use mathlib.Core.Path.{_∙_, ap, sym, refl}
 use Prim.Native.Nat.{ℕ}
 use borrow.Author.Needs.{needs}
@@ -6,11 +7,6 @@ use Rattle.writing.specs.declared.Written.the-variants.{Refused}
 use Rattle.join.proofs.close.Statement.{statement}
 use Rattle.joining.proofs.FileLaws.{closed-fault, closed-valid}
 use Rattle.join.proofs.close.Tie as tie
-use Rattle.join.proofs.close.Reads as reads
-use Rattle.join.proofs.close.Lts as lts
-use Rattle.file_parts.proofs.Reading.number.Reads as number-reads
-use Rattle.format.proofs.read.Reads as read-reads
-use Rattle.closures.proofs.repeat.Reads as repeat-reads
 
 read-requires : tie.Need-read-requires
 read-requires c κs = search needs

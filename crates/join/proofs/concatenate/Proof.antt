@@ -1,13 +1,10 @@
+-- `join::concatenate` meets its contract.
 use mathlib.Core.Path.{_∙_, refl, sym}
 use borrow.Author.Needs.{needs}
 use Rattle.automata.specs.Joins.{concatenation}
 use Rattle.join.proofs.concatenate.Statement.{statement}
 use Rattle.joining.proofs.FileLaws.{both-joinable, joined-both, joined-fault}
 use Rattle.join.proofs.concatenate.Tie as tie
-use Rattle.join.proofs.concatenate.Reads as reads
-use Rattle.join.proofs.concatenate.Lts as lts
-use Rattle.joining.proofs.files.read_files.Reads as read-files-reads
-use Rattle.concatenations.proofs.append.Reads as append-reads
 
 read-files-requires : tie.Need-read-files-requires
 read-files-requires c κs = search needs

@@ -1,13 +1,10 @@
+-- `join::intersect` meets its contract.
 use mathlib.Core.Path.{_∙_, refl, sym}
 use borrow.Author.Needs.{needs}
 use Rattle.automata.specs.Joins.{intersection}
 use Rattle.join.proofs.intersect.Statement.{statement}
 use Rattle.joining.proofs.FileLaws.{both-joinable, joined-both, joined-fault}
 use Rattle.join.proofs.intersect.Tie as tie
-use Rattle.join.proofs.intersect.Reads as reads
-use Rattle.join.proofs.intersect.Lts as lts
-use Rattle.joining.proofs.files.read_files.Reads as read-files-reads
-use Rattle.intersection.proofs.product.Reads as product-reads
 
 read-files-requires : tie.Need-read-files-requires
 read-files-requires c κs = search needs

@@ -1,13 +1,10 @@
+-- `join::union` meets its contract.
 use mathlib.Core.Path.{_∙_, refl, sym}
 use borrow.Author.Needs.{needs}
 use Rattle.automata.specs.Joins.{union}
 use Rattle.join.proofs.union.Statement.{statement}
 use Rattle.joining.proofs.FileLaws.{both-joinable, joined-both, joined-fault}
 use Rattle.join.proofs.union.Tie as tie
-use Rattle.join.proofs.union.Reads as reads
-use Rattle.join.proofs.union.Lts as lts
-use Rattle.joining.proofs.files.read_files.Reads as read-files-reads
-use Rattle.unions.proofs.unite.Reads as unite-reads
 
 read-files-requires : tie.Need-read-files-requires
 read-files-requires c κs = search needs

@@ -1,3 +1,4 @@
+-- `pairing::count_arcs` meets its contract.
 use mathlib.Core.Path.{refl}
 use mathlib.Core.List.{_++_, flatMap, append-assoc}
 use Prim.Native.Nat.{_-_}
@@ -13,10 +14,6 @@ use Rattle.pairing.proofs.Uncounted.{tallied-append}
 use Rattle.pairing.proofs.Groups.{arc-groups}
 use Rattle.pairing.proofs.count_arcs.Statement.{statement}
 use Rattle.pairing.proofs.count_arcs.Tie as tie
-use Rattle.pairing.proofs.count_arcs.Reads as reads
-use Rattle.pairing.proofs.count_arcs.Lts as lts
-use Rattle.pairing.proofs.count_empty.Reads as count-empty-reads
-use Rattle.pairing.proofs.count_lettered.Reads as count-lettered-reads
 
 count-lettered-requires : tie.Need-count-lettered-requires
 count-lettered-requires c κs = search needs

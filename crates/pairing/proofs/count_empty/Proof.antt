@@ -1,3 +1,4 @@
+-- `pairing::count_empty` meets its contract.
 use mathlib.Core.Path.{_≡_, _∙_, sym}
 use mathlib.Core.Logic.{⊎-elim}
 use mathlib.Core.Bool.{false}
@@ -16,10 +17,6 @@ use Rattle.pairing.proofs.Uncounted.{Uncounted, uncounted-all, uncounte
 use Rattle.pairing.proofs.ArcsOf.{ops-here, empty-next, empty-skip, empty-none}
 use Rattle.pairing.proofs.count_empty.Statement.{statement}
 use Rattle.pairing.proofs.count_empty.Tie as tie
-use Rattle.pairing.proofs.count_empty.Reads as reads
-use Rattle.pairing.proofs.count_empty.Lts as lts
-use Rattle.file_parts.proofs.fields.arc_size.Reads as arc-size-reads
-use Rattle.file_parts.proofs.fields.byte.Reads as byte-reads
 
 abbrev Inv-loop : tie.InvT-loop
 Inv-loop c file n arcs₀ size₀ from₀ i₀ arcs size from i = (i ≤ c .arcs) × Walk c file (c .arcs - i) from × (arcs ≤ 256 * i) × (size ≤ 131840 * i) × ((f : Arc → ℕ → Arc) → ((x : Arc) (j : ℕ) → length (f x j .ops) ≡ length (x .ops)) → Uncounted (record { arcs = arcs; size = size; many = false }) (emptyWith f n (arcsOf (c .arcs - i) (drop from file))) (emptyWith f n (arcsOf (c .arcs) (drop from₀ file))))

@@ -1,3 +1,4 @@
+-- `pairing::count_joint` meets its contract.
 use mathlib.Core.Path.{_≡_, _∙_, ap, ap₂, sym}
 use mathlib.Core.Logic.{⊎-elim, _≢_}
 use mathlib.Core.List.{_∷_, []}
@@ -13,10 +14,6 @@ use Rattle.pairing.proofs.Uncounted.{Uncounted, uncounted-all, uncounte
 use Rattle.pairing.proofs.ArcsOf.{joint-next, joint-none, joint-nothing, joint-ops, joint-skip, letter-at, ops-at}
 use Rattle.pairing.proofs.count_joint.Statement.{statement}
 use Rattle.pairing.proofs.count_joint.Tie as tie
-use Rattle.pairing.proofs.count_joint.Reads as reads
-use Rattle.pairing.proofs.count_joint.Lts as lts
-use Rattle.file_parts.proofs.fields.arc_size.Reads as arc-size-reads
-use Rattle.file_parts.proofs.fields.byte.Reads as byte-reads
 
 abbrev Inv-loop : tie.InvT-loop
 Inv-loop first from b second letter p arcs₀ size₀ many₀ at₀ i₀ arcs size many at i = (i ≤ b .arcs) × (letter ≢ 255) × Walk b second (b .arcs - i) at × (arcs ≤ i) × (size ≤ 1024 * i) × ((n k : ℕ) → Uncounted (record { arcs = arcs; size = size; many = many }) (jointWith n k (arcsOf (b .arcs - i) (drop at second)) (arcOf (drop from first))) (jointWith n k (arcsOf (b .arcs) (drop at₀ second)) (arcOf (drop from first))))

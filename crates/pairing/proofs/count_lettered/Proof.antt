@@ -1,3 +1,4 @@
+-- `pairing::count_lettered` meets its contract.
 use mathlib.Core.Path.{_≡_}
 use mathlib.Core.List.{flatMap}
 use Prim.Native.Nat.{ℕ, _-_, _*_, _≤_}
@@ -11,10 +12,6 @@ use Rattle.pairing.proofs.Uncounted.{Uncounted, uncounted-all, uncounte
 use Rattle.pairing.proofs.ArcsOf.{flat-next, flat-none}
 use Rattle.pairing.proofs.count_lettered.Statement.{statement}
 use Rattle.pairing.proofs.count_lettered.Tie as tie
-use Rattle.pairing.proofs.count_lettered.Reads as reads
-use Rattle.pairing.proofs.count_lettered.Lts as lts
-use Rattle.file_parts.proofs.fields.arc_size.Reads as arc-size-reads
-use Rattle.pairing.proofs.count_joint.Reads as count-joint-reads
 
 abbrev Inv-loop : tie.InvT-loop
 Inv-loop a first b second arcs₀ size₀ many₀ from₀ i₀ arcs size many from i = (i ≤ a .arcs) × Walk a first (a .arcs - i) from × (arcs ≤ 2048 * i) × (size ≤ 2097152 * i) × ((n k : ℕ) → Uncounted (record { arcs = arcs; size = size; many = many }) (flatMap (jointWith n k (automatonOf second .arcs)) (arcsOf (a .arcs - i) (drop from first))) (flatMap (jointWith n k (automatonOf second .arcs)) (arcsOf (a .arcs) (drop from₀ first))))

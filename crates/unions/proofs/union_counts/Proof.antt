@@ -1,10 +1,8 @@
+-- `unions::union_counts` meets its contract.
 use borrow.Author.Needs.{needs}
 use Rattle.unions.proofs.union_counts.Statement.{statement}
 use Rattle.unions.proofs.UnionBytes.{union-counts}
 use Rattle.unions.proofs.union_counts.Tie as tie
-use Rattle.unions.proofs.union_counts.Reads as reads
-use Rattle.unions.proofs.union_counts.Lts as lts
-use Rattle.joining.proofs.answer.larger.Reads as larger-reads
 
 add-t3 : tie.Need-add-t3
 add-t3 c = search needs

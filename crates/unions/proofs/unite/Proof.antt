@@ -1,3 +1,4 @@
+-- `unions::unite` meets its contract.
 use mathlib.Core.Path.{_∙_, _≡_, ap, sym}
 use Prim.Native.Nat.{_+_, _≤_}
 use native.Mathlib.Omega.{arith}
@@ -16,12 +17,6 @@ use Rattle.joining.proofs.FinalLaws.{valid-lengths}
 use Rattle.joining.proofs.AnswerLaws.{decided-written, written-bytes}
 use Rattle.unions.proofs.UnionFits.{union-fits, union-ops}
 use Rattle.unions.proofs.unite.Tie as tie
-use Rattle.unions.proofs.unite.Reads as reads
-use Rattle.unions.proofs.unite.Lts as lts
-use Rattle.joining.proofs.answer.arcs_size.Reads as arcs-size-reads
-use Rattle.joining.proofs.answer.decide.Reads as decide-reads
-use Rattle.unions.proofs.union_counts.Reads as union-counts-reads
-use Rattle.unions.proofs.write_union.Reads as write-union-reads
 use Rattle.writing.proofs.FileParts.{file-written}
 
 -- the automata, and the counts of their union

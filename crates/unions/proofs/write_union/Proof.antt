@@ -1,3 +1,4 @@
+-- `unions::write_union` meets its contract.
 use mathlib.Core.Path.{_≡_, subst, ap}
 use mathlib.Core.List.{[], _++_, _∷_, map}
 use Prim.Native.Nat.{_+_, _≤_}
@@ -15,12 +16,6 @@ use Rattle.unions.proofs.write_union.Statement.{statement}
 use Rattle.unions.proofs.UnionBytes.{union-parts, union-counts}
 use Rattle.joining.proofs.FinalLaws.{valid-lengths, flags-end}
 use Rattle.unions.proofs.write_union.Tie as tie
-use Rattle.unions.proofs.write_union.Reads as reads
-use Rattle.unions.proofs.write_union.Lts as lts
-use Rattle.joining.proofs.flags.write_flags.Reads as write-flags-reads
-use Rattle.writing.proofs.front.write_front.Reads as write-front-reads
-use Rattle.unions.proofs.write_union_arcs.Reads as write-union-arcs-reads
-use Rattle.writing.proofs.parts.write_byte.Reads as write-byte-reads
 use Rattle.writing.proofs.FileParts.{front-ends, header-length}
 
 -- the parts, and room for them

@@ -1,3 +1,4 @@
+-- `unions::write_union_arcs` meets its contract.
 use mathlib.Core.Path.{_≡_, ap}
 use mathlib.Core.List.{_++_, map}
 use Prim.Native.Nat.{_+_}
@@ -15,10 +16,6 @@ use Rattle.unions.proofs.write_union_arcs.Statement.{statement}
 use Rattle.joining.proofs.Walking.{entry-length}
 use Rattle.unions.proofs.UnionBytes.{union-arc-parts}
 use Rattle.unions.proofs.write_union_arcs.Tie as tie
-use Rattle.unions.proofs.write_union_arcs.Reads as reads
-use Rattle.unions.proofs.write_union_arcs.Lts as lts
-use Rattle.joining.proofs.groups.write_entry.Reads as write-entry-reads
-use Rattle.joining.proofs.groups.write_moved_arcs.Reads as write-moved-arcs-reads
 
 -- the parts, and room for them
 abbrev parts : (s : tie.Start) → let x = automatonOf (s .args .first .now) in let y = automatonOf (s .args .second .now) in let n = s .args .a .states in

@@ -3,7 +3,7 @@
 use borrow.Author.Needs.{needs}
 use native.Mathlib.Omega.{arith}
 use mathlib.Core.Path.{_≡_, _∙_, subst}
-use Prim.Native.Nat.{_+_, _-_, _*_, _%_, _^_, _<_}
+use Prim.Native.Nat.{_+_, _-_, _*_, _%_, _^_}
 use lib.Bits.{and-mask}
 use lib.ListN.{getD}
 use Rattle.passing.specs.Map.{configs}

@@ -1,3 +1,4 @@
+-- `intersection::finals::write_both_flags` meets its contract.
 use mathlib.Core.Path.{_≡_, _∙_, ap, sym, subst}
 use mathlib.Core.Logic.{⊎-elim}
 use mathlib.Core.Bool.{Bool}
@@ -15,11 +16,6 @@ use Rattle.joining.proofs.FinalLaws.{valid-finals, valid-lengths, valid-flags}
 use Rattle.intersection.proofs.FlagLaws.{flagsFrom, flags-none, flag-at, flags-final, flags-other, flags-length}
 use Rattle.intersection.proofs.finals.write_both_flags.Statement.{statement}
 use Rattle.intersection.proofs.finals.write_both_flags.Tie as tie
-use Rattle.intersection.proofs.finals.write_both_flags.Reads as reads
-use Rattle.intersection.proofs.finals.write_both_flags.Lts as lts
-use Rattle.file_parts.proofs.fields.byte.Reads as byte-reads
-use Rattle.joining.proofs.flags.write_flags.Reads as write-flags-reads
-use Rattle.writing.proofs.parts.write_zeros.Reads as write-zeros-reads
 
 abbrev Inv-loop : tie.InvT-loop
 Inv-loop out₀ at a first b second flags to₀ i₀ out to i = (i ≤ a .states) × Left at (map flagByte (bothFinal (automatonOf first .finals) (automatonOf second .finals))) out₀ to (flagsFrom (flagBytes a first) (automatonOf second .finals) i) out

@@ -1,10 +1,9 @@
+-- `joining::answer::arcs_size` meets its contract.
 use native.Mathlib.Omega.{arith}
 use Rattle.file_laws.proofs.ValidLaws.{file-seen, valid-longest, valid-ranges}
 use Rattle.joining.proofs.answer.arcs_size.Statement.{statement}
 use Rattle.joining.proofs.Walking.{arcs-length}
 use Rattle.joining.proofs.answer.arcs_size.Tie as tie
-use Rattle.joining.proofs.answer.arcs_size.Reads as reads
-use Rattle.joining.proofs.answer.arcs_size.Lts as lts
 
 add-result : tie.Need-add-result
 add-result c = omega (arith, valid-ranges _ _ (c .before .pre) .letters)

@@ -1,3 +1,4 @@
+-- `joining::files::read_files` meets its contract.
 use mathlib.Core.Path.{_∙_, _≡_, ap, sym}
 use mathlib.Core.Bool.{cond, not}
 use Prim.Native.Nat.{ℕ}
@@ -13,11 +14,6 @@ use Rattle.joining.specs.Joining.{filesOf}
 use Rattle.joining.proofs.files.read_files.Statement.{statement}
 use Rattle.joining.proofs.FileLaws.{first-fault, second-fault, valid-files}
 use Rattle.joining.proofs.files.read_files.Tie as tie
-use Rattle.joining.proofs.files.read_files.Reads as reads
-use Rattle.joining.proofs.files.read_files.Lts as lts
-use Rattle.file_parts.proofs.Reading.number.Reads as number-reads
-use Rattle.format.proofs.read.Reads as read-reads
-use Rattle.joining.proofs.files.same_bytes.Reads as same-bytes-reads
 use Rattle.writing.proofs.FileParts.{lent-letters}
 
 -- what reading answered, and the letters then

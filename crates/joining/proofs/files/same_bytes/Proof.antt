@@ -1,3 +1,4 @@
+-- `joining::files::same_bytes` meets its contract.
 use mathlib.Core.Path.{_≡_, refl, sym, _∙_}
 use mathlib.Core.Bool.{_&&_}
 use Prim.Native.Nat.{_-_, _≤_, _+_}
@@ -10,8 +11,6 @@ use Rattle.automata.specs.Lists.{sameBy}
 use Rattle.joining.proofs.files.same_bytes.Statement.{statement}
 use Rattle.joining.proofs.FileLaws.{other-lengths, same-at, same-end}
 use Rattle.joining.proofs.files.same_bytes.Tie as tie
-use Rattle.joining.proofs.files.same_bytes.Reads as reads
-use Rattle.joining.proofs.files.same_bytes.Lts as lts
 
 abbrev Inv-loop : tie.InvT-loop
 Inv-loop left right i₀ i = (i ≤ length left) × (sameBy eqb left right ≡ sameBy eqb (drop i left) (drop i right))

@@ -1,3 +1,4 @@
+-- `joining::finals::count_finals` meets its contract.
 use mathlib.Core.Path.{_≡_}
 use native.Mathlib.Omega.{arith}
 use borrow.Author.Needs.{needs}
@@ -8,9 +9,6 @@ use Rattle.file_laws.proofs.ValidLaws.{file-seen, valid-ranges}
 use Rattle.joining.proofs.finals.count_finals.Statement.{statement}
 use Rattle.joining.proofs.FinalLaws.{final-count, lent-finals, valid-lengths}
 use Rattle.joining.proofs.finals.count_finals.Tie as tie
-use Rattle.joining.proofs.finals.count_finals.Reads as reads
-use Rattle.joining.proofs.finals.count_finals.Lts as lts
-use Rattle.joining.proofs.finals.count_flags.Reads as count-flags-reads
 
 add-flags : tie.Need-add-flags
 add-flags c = omega (arith, valid-ranges _ _ (c .before .before .pre) .letters)

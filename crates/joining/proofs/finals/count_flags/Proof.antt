@@ -1,3 +1,4 @@
+-- `joining::finals::count_flags` meets its contract.
 use mathlib.Core.Path.{_≡_, ap}
 use mathlib.Core.Logic.{⊎-elim}
 use Prim.Native.Nat.{_+_, _-_, _<_, _≤_}
@@ -6,8 +7,6 @@ use lib.ListN.{length}
 use Rattle.joining.proofs.finals.count_flags.Statement.{statement}
 use Rattle.joining.proofs.FinalLaws.{final-here, final-none, final-not, finalFrom}
 use Rattle.joining.proofs.finals.count_flags.Tie as tie
-use Rattle.joining.proofs.finals.count_flags.Reads as reads
-use Rattle.joining.proofs.finals.count_flags.Lts as lts
 
 abbrev Inv-loop : tie.InvT-loop
 Inv-loop flags n₀ i₀ n i = (i ≤ length flags) × (n ≤ i) × (n + length (finalFrom flags i) ≡ length (finalFrom flags 0))

@@ -1,3 +1,4 @@
+-- `joining::finals::write_final_arcs` meets its contract.
 use native.Mathlib.Omega.{arith}
 use borrow.Author.Needs.{needs}
 use lib.ListN.{length-drop, length-take}
@@ -6,9 +7,6 @@ use Rattle.file_laws.proofs.ValidLaws.{file-seen, valid-ranges}
 use Rattle.joining.proofs.finals.write_final_arcs.Statement.{statement}
 use Rattle.joining.proofs.FinalLaws.{lent-finals}
 use Rattle.joining.proofs.finals.write_final_arcs.Tie as tie
-use Rattle.joining.proofs.finals.write_final_arcs.Reads as reads
-use Rattle.joining.proofs.finals.write_final_arcs.Lts as lts
-use Rattle.joining.proofs.finals.write_returns.Reads as write-returns-reads
 
 add-flags : tie.Need-add-flags
 add-flags c = omega (arith, valid-ranges _ _ (c .before .before .before .pre .0) .letters)

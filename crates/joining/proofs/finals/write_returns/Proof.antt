@@ -1,3 +1,4 @@
+-- `joining::finals::write_returns` meets its contract.
 use mathlib.Core.Logic.{⊎-elim}
 use mathlib.Core.List.{_++_, map}
 use Prim.Native.Nat.{_+_, _-_, _≤_}
@@ -10,9 +11,6 @@ use Rattle.arc_writing.proofs.ArcBytes.{arc-length}
 use Rattle.joining.proofs.finals.write_returns.Statement.{statement}
 use Rattle.joining.proofs.FinalLaws.{final-here, final-none, finalFrom, returning, final-not}
 use Rattle.joining.proofs.finals.write_returns.Tie as tie
-use Rattle.joining.proofs.finals.write_returns.Reads as reads
-use Rattle.joining.proofs.finals.write_returns.Lts as lts
-use Rattle.arc_writing.proofs.write_clearing_arc.Reads as write-clearing-arc-reads
 
 abbrev Inv-loop : tie.InvT-loop
 Inv-loop out₀ at flags s t n to₀ i₀ out to i = (i ≤ length flags) × Left at (arcsBytes (map (returning s t n) (finalFrom flags 0))) out₀ to (arcsBytes (map (returning s t n) (finalFrom flags i))) out

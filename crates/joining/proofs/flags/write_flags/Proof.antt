@@ -1,12 +1,10 @@
+-- `joining::flags::write_flags` meets its contract.
 use native.Mathlib.Omega.{arith}
 use borrow.Author.Needs.{needs}
 use Rattle.file_laws.proofs.ValidLaws.{file-seen, valid-ranges}
 use Rattle.joining.proofs.flags.write_flags.Statement.{statement}
 use Rattle.joining.proofs.FinalLaws.{lent-flags, valid-flags}
 use Rattle.joining.proofs.flags.write_flags.Tie as tie
-use Rattle.joining.proofs.flags.write_flags.Reads as reads
-use Rattle.joining.proofs.flags.write_flags.Lts as lts
-use Rattle.writing.proofs.parts.write_copy.Reads as write-copy-reads
 
 add-flags : tie.Need-add-flags
 add-flags c = omega (arith, valid-ranges _ _ (c .before .before .before .pre .0) .letters)

@@ -1,10 +1,8 @@
+-- `joining::groups::write_entry` meets its contract.
 use borrow.Author.Needs.{needs}
 use Rattle.format.specs.Decoding.{letterOf}
 use Rattle.joining.proofs.groups.write_entry.Statement.{statement}
 use Rattle.joining.proofs.groups.write_entry.Tie as tie
-use Rattle.joining.proofs.groups.write_entry.Reads as reads
-use Rattle.joining.proofs.groups.write_entry.Lts as lts
-use Rattle.arc_writing.proofs.write_plain_arc.Reads as write-plain-arc-reads
 
 write-plain-arc-requires : tie.Need-write-plain-arc-requires
 write-plain-arc-requires c κs = search needs

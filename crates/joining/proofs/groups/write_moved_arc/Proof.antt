@@ -1,3 +1,4 @@
+-- `joining::groups::write_moved_arc` meets its contract.
 use Prim.Native.Nat.{_+_}
 use native.Mathlib.Omega.{arith}
 use borrow.Author.Needs.{needs}
@@ -8,10 +9,6 @@ use Rattle.file_parts.proofs.Steps.{tail}
 use Rattle.joining.proofs.groups.write_moved_arc.Statement.{statement}
 use Rattle.joining.proofs.Walking.{arc-at}
 use Rattle.joining.proofs.groups.write_moved_arc.Tie as tie
-use Rattle.joining.proofs.groups.write_moved_arc.Reads as reads
-use Rattle.joining.proofs.groups.write_moved_arc.Lts as lts
-use Rattle.file_parts.proofs.fields.byte.Reads as byte-reads
-use Rattle.arc_writing.proofs.write_arc.Reads as write-arc-reads
 
 byte-requires : tie.Need-byte-requires
 byte-requires c κs = search needs

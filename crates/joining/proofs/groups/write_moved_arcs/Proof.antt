@@ -1,3 +1,4 @@
+-- `joining::groups::write_moved_arcs` meets its contract.
 use mathlib.Core.Path.{_≡_}
 use mathlib.Core.List.{map, _++_}
 use Prim.Native.Nat.{_-_, _≤_, _+_}
@@ -12,10 +13,6 @@ use Rattle.writing.proofs.Placed.{Left, left-all, left-fits, left-less, left-no
 use Rattle.joining.proofs.groups.write_moved_arcs.Statement.{statement}
 use Rattle.joining.proofs.Walking.{Walk, walk-start, ArcHere, mapped-next, mapped-none, moved-length, read-length, walk-here, walk-on}
 use Rattle.joining.proofs.groups.write_moved_arcs.Tie as tie
-use Rattle.joining.proofs.groups.write_moved_arcs.Reads as reads
-use Rattle.joining.proofs.groups.write_moved_arcs.Lts as lts
-use Rattle.file_parts.proofs.fields.arc_size.Reads as arc-size-reads
-use Rattle.joining.proofs.groups.write_moved_arc.Reads as write-moved-arc-reads
 
 abbrev Inv-loop : tie.InvT-loop
 Inv-loop out₀ at c file s k from₀ to₀ i₀ out from to i = (i ≤ c .arcs) × Walk c file (c .arcs - i) from × Left at (arcsBytes (map (movedArc s k) (arcsOf (c .arcs) (drop from₀ file)))) out₀ to (arcsBytes (map (movedArc s k) (arcsOf (c .arcs - i) (drop from file)))) out

@@ -1,3 +1,4 @@
+-- `joint_arcs::beside::write_beside` meets its contract.
 use Prim.Native.Nat.{_+_, _*_, _<_}
 use native.Mathlib.Omega.{arith}
 use borrow.Author.Needs.{needs}
@@ -9,10 +10,6 @@ use Rattle.joining.proofs.Walking.{arc-at}
 use Rattle.pairing.proofs.ArcsOf.{source-at, target-at}
 use Rattle.joint_arcs.proofs.beside.write_beside.Statement.{statement}
 use Rattle.joint_arcs.proofs.beside.write_beside.Tie as tie
-use Rattle.joint_arcs.proofs.beside.write_beside.Reads as reads
-use Rattle.joint_arcs.proofs.beside.write_beside.Lts as lts
-use Rattle.file_parts.proofs.fields.byte.Reads as byte-reads
-use Rattle.arc_writing.proofs.write_arc.Reads as write-arc-reads
 
 -- its states are bytes
 source-small : (c : tie.After-byte) → let a = c .before .before .before .args in c .byte .result * a .b .scale + a .i * a .b .step < 256

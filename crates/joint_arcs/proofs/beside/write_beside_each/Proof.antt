@@ -1,3 +1,4 @@
+-- `joint_arcs::beside::write_beside_each` meets its contract.
 use mathlib.Core.Path.{_≡_}
 use mathlib.Core.List.{_++_, map}
 use Prim.Native.Nat.{_+_, _-_, _≤_}
@@ -11,9 +12,6 @@ use Rattle.joint_arcs.specs.Writing.{besideArc}
 use Rattle.joint_arcs.proofs.Besides.{beside-next, beside-none, beside-length}
 use Rattle.joint_arcs.proofs.beside.write_beside_each.Statement.{statement}
 use Rattle.joint_arcs.proofs.beside.write_beside_each.Tie as tie
-use Rattle.joint_arcs.proofs.beside.write_beside_each.Reads as reads
-use Rattle.joint_arcs.proofs.beside.write_beside_each.Lts as lts
-use Rattle.joint_arcs.proofs.beside.write_beside.Reads as write-beside-reads
 
 abbrev Inv-loop : tie.InvT-loop
 Inv-loop out₀ at file from b to₀ i₀ out to i = (i ≤ b .states) × Left at (arcsBytes (map (besideArc b (arcOf (drop from file))) (countFrom 0 (b .states)))) out₀ to (arcsBytes (map (besideArc b (arcOf (drop from file))) (countFrom i (b .states - i)))) out

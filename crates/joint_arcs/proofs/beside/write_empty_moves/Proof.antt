@@ -1,3 +1,4 @@
+-- `joint_arcs::beside::write_empty_moves` meets its contract.
 use mathlib.Core.Path.{_≡_, _∙_, sym}
 use mathlib.Core.Logic.{⊎-elim}
 use mathlib.Core.List.{_++_, map}
@@ -17,11 +18,6 @@ use Rattle.joint_arcs.specs.Writing.{besideArc}
 use Rattle.pairing.proofs.ArcsOf.{empty-next, empty-skip, empty-none}
 use Rattle.joint_arcs.proofs.beside.write_empty_moves.Statement.{statement}
 use Rattle.joint_arcs.proofs.beside.write_empty_moves.Tie as tie
-use Rattle.joint_arcs.proofs.beside.write_empty_moves.Reads as reads
-use Rattle.joint_arcs.proofs.beside.write_empty_moves.Lts as lts
-use Rattle.file_parts.proofs.fields.arc_size.Reads as arc-size-reads
-use Rattle.file_parts.proofs.fields.byte.Reads as byte-reads
-use Rattle.joint_arcs.proofs.beside.write_beside_each.Reads as write-beside-each-reads
 
 abbrev Inv-loop : tie.InvT-loop
 Inv-loop out₀ at c file b to₀ from₀ i₀ out to from i = (i ≤ c .arcs) × Walk c file (c .arcs - i) from × Left at (arcsBytes (emptyWith (besideArc b) (b .states) (arcsOf (c .arcs) (drop from₀ file)))) out₀ to (arcsBytes (emptyWith (besideArc b) (b .states) (arcsOf (c .arcs - i) (drop from file)))) out

@@ -1,3 +1,4 @@
+-- `joint_arcs::joint::write_joint` meets its contract.
 use Prim.Native.Nat.{_+_, _*_, _<_}
 use native.Mathlib.Omega.{arith}
 use borrow.Author.Needs.{needs}
@@ -11,10 +12,6 @@ use Rattle.joining.proofs.Walking.{arc-at}
 use Rattle.pairing.proofs.ArcsOf.{joint-ops, source-at, target-at, ops-at}
 use Rattle.joint_arcs.proofs.joint.write_joint.Statement.{statement}
 use Rattle.joint_arcs.proofs.joint.write_joint.Tie as tie
-use Rattle.joint_arcs.proofs.joint.write_joint.Reads as reads
-use Rattle.joint_arcs.proofs.joint.write_joint.Lts as lts
-use Rattle.file_parts.proofs.fields.byte.Reads as byte-reads
-use Rattle.arc_writing.proofs.write_joint_arc.Reads as write-joint-arc-reads
 
 -- its states are bytes
 source-product : (c : tie.After-byte) → let a = c .before .before .before .before .args in c .byte .result * a .n + arcOf (drop (a .other) (a .second .now)) .source < 256

@@ -1,3 +1,4 @@
+-- `joint_arcs::joint::write_joint_arcs` meets its contract.
 use mathlib.Core.Path.{_≡_}
 use mathlib.Core.List.{_++_, flatMap}
 use Prim.Native.Nat.{_+_, _-_, _≤_}
@@ -15,10 +16,6 @@ use Rattle.pairing.proofs.ArcsOf.{flat-next, flat-none}
 use Rattle.joint_arcs.proofs.Numbering.{row-below}
 use Rattle.joint_arcs.proofs.joint.write_joint_arcs.Statement.{statement}
 use Rattle.joint_arcs.proofs.joint.write_joint_arcs.Tie as tie
-use Rattle.joint_arcs.proofs.joint.write_joint_arcs.Reads as reads
-use Rattle.joint_arcs.proofs.joint.write_joint_arcs.Lts as lts
-use Rattle.file_parts.proofs.fields.arc_size.Reads as arc-size-reads
-use Rattle.joint_arcs.proofs.joint.write_joint_with.Reads as write-joint-with-reads
 
 abbrev Inv-loop : tie.InvT-loop
 Inv-loop out₀ at a first b second k to₀ from₀ i₀ out to from i = (i ≤ a .arcs) × Walk a first (a .arcs - i) from × Left at (arcsBytes (flatMap (jointWith (b .states) k (automatonOf second .arcs)) (arcsOf (a .arcs) (drop from₀ first)))) out₀ to (arcsBytes (flatMap (jointWith (b .states) k (automatonOf second .arcs)) (arcsOf (a .arcs - i) (drop from first)))) out

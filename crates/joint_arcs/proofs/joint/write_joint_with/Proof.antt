@@ -1,3 +1,4 @@
+-- `joint_arcs::joint::write_joint_with` meets its contract.
 use mathlib.Core.Path.{_≡_, _∙_, ap, sym}
 use mathlib.Core.Logic.{⊎-elim, _≢_}
 use mathlib.Core.List.{_++_}
@@ -16,11 +17,6 @@ use Rattle.pairing.specs.Pairing.{jointWith}
 use Rattle.pairing.proofs.ArcsOf.{joint-next, joint-none, joint-nothing, joint-skip, letter-at}
 use Rattle.joint_arcs.proofs.joint.write_joint_with.Statement.{statement}
 use Rattle.joint_arcs.proofs.joint.write_joint_with.Tie as tie
-use Rattle.joint_arcs.proofs.joint.write_joint_with.Reads as reads
-use Rattle.joint_arcs.proofs.joint.write_joint_with.Lts as lts
-use Rattle.file_parts.proofs.fields.arc_size.Reads as arc-size-reads
-use Rattle.file_parts.proofs.fields.byte.Reads as byte-reads
-use Rattle.joint_arcs.proofs.joint.write_joint.Reads as write-joint-reads
 
 abbrev Inv-loop : tie.InvT-loop
 Inv-loop out₀ at first from b second k letter to₀ other₀ i₀ out to other i = (i ≤ b .arcs) × (letter ≢ 255) × Walk b second (b .arcs - i) other × Left at (arcsBytes (jointWith (b .states) k (arcsOf (b .arcs) (drop other₀ second)) (arcOf (drop from first)))) out₀ to (arcsBytes (jointWith (b .states) k (arcsOf (b .arcs - i) (drop other second)) (arcOf (drop from first)))) out

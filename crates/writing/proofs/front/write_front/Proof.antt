@@ -1,3 +1,4 @@
+-- `writing::front::write_front` meets its contract.
 use native.Mathlib.Omega.{arith}
 use borrow.Author.Needs.{needs}
 use lib.ListN.{length-drop, length-take}
@@ -5,10 +6,6 @@ use Rattle.file_laws.proofs.ValidLaws.{file-seen}
 use Rattle.writing.proofs.Placed.{appended-length, written-then}
 use Rattle.writing.proofs.front.write_front.Statement.{statement}
 use Rattle.writing.proofs.front.write_front.Tie as tie
-use Rattle.writing.proofs.front.write_front.Reads as reads
-use Rattle.writing.proofs.front.write_front.Lts as lts
-use Rattle.writing.proofs.parts.write_copy.Reads as write-copy-reads
-use Rattle.writing.proofs.parts.write_header.Reads as write-header-reads
 use Rattle.writing.proofs.FileParts.{header-length, lent-letters, valid-alphabet}
 
 write-header-requires : tie.Need-write-header-requires

@@ -1,10 +1,9 @@
+-- `writing::parts::write_byte` meets its contract.
 use mathlib.Core.List.{[], _∷_}
 use Rattle.writing.proofs.Placed.{stored}
 use borrow.Author.Needs.{needs}
 use Rattle.writing.proofs.parts.write_byte.Statement.{statement}
 use Rattle.writing.proofs.parts.write_byte.Tie as tie
-use Rattle.writing.proofs.parts.write_byte.Reads as reads
-use Rattle.writing.proofs.parts.write_byte.Lts as lts
 
 slice-write-out : tie.Need-slice-write-out
 slice-write-out c = search needs

@@ -1,3 +1,4 @@
+-- `writing::parts::write_copy` meets its contract.
 use mathlib.Core.Path.{_≡_}
 use mathlib.Core.List.{_∷_}
 use Prim.Native.Nat.{_+_, _-_, _≤_}
@@ -9,8 +10,6 @@ use lib.Seq.{drop-cons}
 use Rattle.writing.proofs.Placed.{Left, left-all, left-byte, left-none}
 use Rattle.writing.proofs.parts.write_copy.Statement.{statement}
 use Rattle.writing.proofs.parts.write_copy.Tie as tie
-use Rattle.writing.proofs.parts.write_copy.Reads as reads
-use Rattle.writing.proofs.parts.write_copy.Lts as lts
 
 abbrev Inv-loop : tie.InvT-loop
 Inv-loop out₀ at part i₀ out i = (i ≤ length part) × Left at part out₀ (at + i) (drop i part) out

@@ -1,3 +1,4 @@
+-- `writing::parts::write_double` meets its contract.
 use mathlib.Core.List.{[], _∷_}
 use Prim.Native.Nat.{_/_, _%_}
 use native.Mathlib.Numerals.{add-one}
@@ -7,8 +8,6 @@ use Rattle.writing.proofs.Placed.{stored}
 use borrow.Author.Needs.{needs}
 use Rattle.writing.proofs.parts.write_double.Statement.{statement}
 use Rattle.writing.proofs.parts.write_double.Tie as tie
-use Rattle.writing.proofs.parts.write_double.Reads as reads
-use Rattle.writing.proofs.parts.write_double.Lts as lts
 
 cast-out : tie.Need-cast-out
 cast-out c = search needs

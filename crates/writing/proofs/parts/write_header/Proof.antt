@@ -1,14 +1,10 @@
+-- `writing::parts::write_header` meets its contract.
 use Rattle.format.specs.Encoding.{headerBytes}
 use Rattle.writing.proofs.Placed.{appended-length, written-then}
 use native.Mathlib.Omega.{arith}
 use borrow.Author.Needs.{needs}
 use Rattle.writing.proofs.parts.write_header.Statement.{statement}
 use Rattle.writing.proofs.parts.write_header.Tie as tie
-use Rattle.writing.proofs.parts.write_header.Reads as reads
-use Rattle.writing.proofs.parts.write_header.Lts as lts
-use Rattle.writing.proofs.parts.write_byte.Reads as write-byte-reads
-use Rattle.writing.proofs.parts.write_double.Reads as write-double-reads
-use Rattle.writing.proofs.parts.write_mark.Reads as write-mark-reads
 
 write-mark-requires : tie.Need-write-mark-requires
 write-mark-requires c κs = search needs

@@ -1,3 +1,4 @@
+-- `writing::parts::write_mark` meets its contract.
 use mathlib.Core.List.{[], _∷_}
 use native.Mathlib.Numerals.{add-one, add-two, add-three, add-four}
 use native.Mathlib.Omega.{arith}
@@ -6,8 +7,6 @@ use Rattle.writing.proofs.Placed.{stored}
 use borrow.Author.Needs.{needs}
 use Rattle.writing.proofs.parts.write_mark.Statement.{statement}
 use Rattle.writing.proofs.parts.write_mark.Tie as tie
-use Rattle.writing.proofs.parts.write_mark.Reads as reads
-use Rattle.writing.proofs.parts.write_mark.Lts as lts
 
 slice-write-out : tie.Need-slice-write-out
 slice-write-out c = search needs

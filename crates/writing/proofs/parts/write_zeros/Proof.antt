@@ -1,3 +1,4 @@
+-- `writing::parts::write_zeros` meets its contract.
 use mathlib.Core.Path.{_≡_}
 use Prim.Native.Nat.{suc, _+_, _-_, _≤_}
 use native.Mathlib.Nat.{add-zero}
@@ -6,8 +7,6 @@ use lib.ListN.{replicate, length-replicate}
 use Rattle.writing.proofs.Placed.{Left, left-all, left-byte, left-none}
 use Rattle.writing.proofs.parts.write_zeros.Statement.{statement}
 use Rattle.writing.proofs.parts.write_zeros.Tie as tie
-use Rattle.writing.proofs.parts.write_zeros.Reads as reads
-use Rattle.writing.proofs.parts.write_zeros.Lts as lts
 
 abbrev Inv-loop : tie.InvT-loop
 Inv-loop out₀ at n i₀ out i = (i ≤ n) × Left at (replicate n 0) out₀ (at + i) (replicate (n - i) 0) out
