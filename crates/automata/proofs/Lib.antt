@@ -22,4 +22,5 @@ pub mod ClosureLaws
 pub mod IntersectionLaws
 pub mod LanguageLaws
 pub mod ExampleLaws
+pub mod Theorems
 pub mod Laws

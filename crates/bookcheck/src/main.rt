@@ -1,11 +1,11 @@
 // bookcheck FILE: reads words from standard input, one a line, and writes for each whether the automaton of the file accepts it:
 // `accepted LIVE WORD` or `rejected LIVE WORD`, LIVE being the number of configurations live after the word.
 // An empty line is the empty word. A file that is refused is told once, on standard error, and no word is read.
-use console::files::Loaded;
-use console::files::load;
-use console::refusals::tell_refusal;
-use console::words::say;
-use console::words::say_number;
+use book_console::files::Loaded;
+use book_console::files::load;
+use book_console::refusals::tell_refusal;
+use book_console::words::say;
+use book_console::words::say_number;
 use table::Membership;
 
 // What a line of the input was: a word of so many bytes, longer than there is room for, or the input's end.

@@ -26,7 +26,7 @@ fn load(path: &[u8], buffer: &mut [u8]) -> usize
 
 // Compares two files and writes the line. What comparing answers, and the line of it, are compare_lines'.
 fn tell(first: &[u8], second: &[u8], line: &mut [u8]) {
-    let n = compare_lines::comparison_line(first, second, line);
+    let n = line_comparison::comparison_line(first, second, line);
     io::write_all(1, &line[0..n]);
 }
 

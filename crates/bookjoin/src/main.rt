@@ -1,11 +1,11 @@
 // bookjoin union|concat|intersect FIRST SECOND RESULT, bookjoin closure FIRST RESULT: joins files, writes the joined file to RESULT
 // and tells how many bytes it has. What is refused is told on standard error, and RESULT is left as it was.
-use console::files::Loaded;
-use console::files::load;
-use console::refusals::finish;
-use console::words::is_argument;
-use console::words::say;
-use writing::Written;
+use book_console::files::Loaded;
+use book_console::files::load;
+use book_console::refusals::finish;
+use book_console::words::is_argument;
+use book_console::words::say;
+use file_writing::Written;
 
 // The operation that the first argument names: 1 union, 2 concatenation, 3 intersection, 4 closure; 0 where it names none.
 fn operation_named() -> u8 {

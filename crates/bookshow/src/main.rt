@@ -1,12 +1,12 @@
 // bookshow [--dot] FILE: writes a file in words: its counts, letters, states, registers, symbols and arcs, one a line; or with --dot
 // as a graph in the DOT language. A file with a fault is shown as far as it can be read, then the fault's number, the place where
 // reading met it, in bytes from the file's start, and what it means.
-use console::files::Loaded;
-use console::files::load;
-use console::refusals::say_meaning;
-use console::words::is_argument;
-use console::words::say;
-use console::words::say_number;
+use book_console::files::Loaded;
+use book_console::files::load;
+use book_console::refusals::say_meaning;
+use book_console::words::is_argument;
+use book_console::words::say;
+use book_console::words::say_number;
 
 fn say_fault(file: i32, number: u8, place: usize) {
     say(file, b"fault ");
@@ -31,7 +31,7 @@ fn list_end(number: u8, place: usize) {
 fn list(file: &[u8]) {
     say_number(1, file.len() as u64);
     say(1, b" bytes\n");
-    let place = listing::show(false, file);
+    let place = book_listing::show(false, file);
     list_end(format::read(file).number(), place);
 }
 
@@ -51,7 +51,7 @@ fn draw(file: &[u8]) {
         1,
         b"digraph automaton {\n  rankdir=LR;\n  node [shape=circle];\n  start [shape=point];\n  start -> 0;\n",
     );
-    let place = listing::show(true, file);
+    let place = book_listing::show(true, file);
     draw_end(format::read(file).number(), place);
 }
 

@@ -1,9 +1,9 @@
 // bookunfold FILE RESULT: writes the automaton without registers that accepts the same words as the file's to RESULT, and tells how
 // many bytes it has. What is refused is told on standard error, and RESULT is left as it was.
-use console::files::Loaded;
-use console::files::load;
-use console::refusals::finish;
-use console::words::say;
+use book_console::files::Loaded;
+use book_console::files::load;
+use book_console::refusals::finish;
+use book_console::words::say;
 
 fn run(file: &[u8], work: &mut [u64], out: &mut [u8]) {
     let answer = unfold::unfold(file, work, out);

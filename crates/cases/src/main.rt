@@ -60,14 +60,14 @@ fn answer(
     ensures { λ r. ⌜ r ≤ length (now (line .exit)) ⌝ }
 {
     match operation {
-        1 => lines::reading_line(format::read(first), line),
-        2 => lines::membership_line(table::accepts(first, second, work), line),
-        3 => lines::written_line(join::union(first, second, out), out, line),
-        4 => lines::written_line(join::concatenate(first, second, out), out, line),
-        5 => lines::written_line(join::intersect(first, second, out), out, line),
-        6 => lines::written_line(join::close(first, out), out, line),
-        7 => lines::written_line(unfold::unfold(first, work, out), out, line),
-        8 => compare_lines::case_line(compare::compare(first, second, work, out), out, line),
+        1 => line_answers::reading_line(format::read(first), line),
+        2 => line_answers::membership_line(table::accepts(first, second, work), line),
+        3 => line_answers::written_line(join::union(first, second, out), out, line),
+        4 => line_answers::written_line(join::concatenate(first, second, out), out, line),
+        5 => line_answers::written_line(join::intersect(first, second, out), out, line),
+        6 => line_answers::written_line(join::close(first, out), out, line),
+        7 => line_answers::written_line(unfold::unfold(first, work, out), out, line),
+        8 => line_comparison::case_line(compare::compare(first, second, work, out), out, line),
         _ => 0,
     }
 }

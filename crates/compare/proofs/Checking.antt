@@ -9,15 +9,15 @@ use lib.Dec.{ltb}
 use lib.ListN.{length}
 use Rattle.automata.specs.Automaton.{Automaton}
 use Rattle.automata.specs.Unfolding.{configurations, plainArcs}
-use Rattle.explore.specs.Explores.{exploredOf}
-use Rattle.meeting.specs.declared.Explored.the-variants.{Tables, TooMany}
+use Rattle.table_explore.specs.Explores.{exploredOf}
+use Rattle.table_configurations.specs.declared.Explored.the-variants.{Tables, TooMany}
 use Rattle.format.specs.Decoding.{automatonOf}
 use Rattle.format.specs.Refusals.{unlessRefused}
-use Rattle.file_parts.specs.declared.Counts.{Counts}
-use Rattle.joining.specs.Joining.{fileTests, filesOf}
-use Rattle.joining.specs.declared.files.Files.the-variants.{Both, Fault}
-use Rattle.joining.proofs.FileLaws.{files-passed, files-refused}
-use Rattle.table.proofs.Building.{explored-few, explored-many}
+use Rattle.file_fields.specs.declared.Counts.{Counts}
+use Rattle.join_parts.specs.Joining.{fileTests, filesOf}
+use Rattle.join_parts.specs.declared.files.Files.the-variants.{Both, Fault}
+use Rattle.join_parts.proofs.Laws.{files-passed, files-refused}
+use Rattle.table.proofs.Laws.{explored-few, explored-many}
 use Rattle.compare.specs.Answers.{Answers, firstTests, limitTests}
 use Rattle.compare.specs.Compares.{Compares}
 use Rattle.compare.specs.Comparing.{automataTests, comparedAt, comparisonOf, tests}

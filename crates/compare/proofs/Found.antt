@@ -12,19 +12,16 @@ use Rattle.automata.specs.Live.{live, liveFrom, meets}
 use Rattle.automata.specs.Pairs.{Pair, difference, different, differs, firstAccepts, judged, onward, pairOf, pairs, samePair, secondAccepts, shown, takerOf, verdict}
 use Rattle.automata.specs.Search.{Entry, entries, firstOf}
 use Rattle.automata.specs.Unfolding.{configurations, finalSet, liveSet, plainArcs}
-use Rattle.automata.proofs.ListLaws.{getElem?-lt, getElem?-some}
-use Rattle.automata.proofs.PairLaws.{shown-many}
-use Rattle.automata.proofs.SearchLaws.{First, at, firstOf-first, nowhere}
-use Rattle.pairs.specs.Entries.{Holds, Side, Tree, along, begin, sideOf}
-use Rattle.pairs.specs.Map.{firstBlock, secondBlock}
-use Rattle.pairs.specs.declared.Grown.{Grown}
-use Rattle.search.specs.Searching.{Both, Outcome}
-use Rattle.sets.specs.Sets.{view}
-use Rattle.shown.specs.Spelled.{alone, differsBy, takerBy, wordOf}
-use Rattle.shown.proofs.Climbing.{spelled-word}
-use Rattle.shown.proofs.Differences.{Judges, judge-entry}
-use Rattle.stepping.specs.Stepping.{FromList, Held}
-use Rattle.table.proofs.Building.{row-start}
+use Rattle.automata.proofs.Laws.{First, at, firstOf-first, getElem?-lt, getElem?-some, nowhere, shown-many}
+use Rattle.compare_pairs.specs.Entries.{Holds, Side, Tree, along, begin, sideOf}
+use Rattle.compare_pairs.specs.Map.{firstBlock, secondBlock}
+use Rattle.compare_pairs.specs.declared.Grown.{Grown}
+use Rattle.compare_search.specs.Searching.{Both, Outcome}
+use Rattle.word_sets.specs.Sets.{view}
+use Rattle.compare_witness.specs.Spelled.{alone, differsBy, takerBy, wordOf}
+use Rattle.compare_witness.proofs.Laws.{Judges, judge-entry, spelled-word}
+use Rattle.table_sets.specs.Stepping.{FromList, Held}
+use Rattle.table.proofs.Laws.{row-start}
 use Rattle.compare.specs.Answers.{Answers, Comparable, pairTest}
 use Rattle.compare.specs.declared.Comparison.the-variants.{Different, Refused, Same}
 use Rattle.compare.proofs.Verdicts.{answers-different, answers-many, answers-same}

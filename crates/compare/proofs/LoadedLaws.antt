@@ -7,26 +7,24 @@ use Prim.Native.Nat.{ℕ, _+_, _≤_}
 use native.Mathlib.Omega.{arith}
 use lib.Dec.{ltb}
 use Rattle.automata.specs.Automaton.{Automaton, letters}
-use Rattle.passing.specs.Arcs.{Indexed, Linked}
-use Rattle.explore.specs.Explores.{exploredOf}
-use Rattle.passing.specs.Map.{KeptBut, Placed, arcsAt, blockEnd}
-use Rattle.meeting.specs.declared.Explored.{Explored}
-use Rattle.meeting.specs.declared.Explored.the-variants.{Tables}
+use Rattle.table_operations.specs.Arcs.{Indexed, Linked}
+use Rattle.table_explore.specs.Explores.{exploredOf}
+use Rattle.table_operations.specs.Map.{KeptBut, Placed, arcsAt, blockEnd}
+use Rattle.table_configurations.specs.declared.Explored.{Explored}
+use Rattle.table_configurations.specs.declared.Explored.the-variants.{Tables}
 use Rattle.format.specs.Decoding.{automatonOf, decoded}
 use Rattle.format.specs.Reading.{readingOf}
-use Rattle.file_parts.specs.declared.Counts.{Counts}
-use Rattle.file_parts.specs.declared.Reading.the-variants.{Valid}
-use Rattle.file_parts.proofs.Steps.{letters-length}
-use Rattle.file_laws.proofs.ValidLaws.{valid-decoded, valid-letters}
-use Rattle.writing.proofs.FileParts.{valid-alphabet}
-use Rattle.sets.specs.Sets.{inSet}
+use Rattle.file_fields.specs.declared.Counts.{Counts}
+use Rattle.file_fields.specs.declared.Reading.the-variants.{Valid}
+use Rattle.file_fields.proofs.Laws.{letters-length}
+use Rattle.file_laws.proofs.Laws.{valid-decoded, valid-letters}
+use Rattle.file_writing.proofs.Laws.{valid-alphabet}
+use Rattle.word_sets.specs.Sets.{inSet}
 use Rattle.table.specs.Finals.{isFinalIn}
-use Rattle.stepping.specs.Stepping.{Starts, ToldStill}
+use Rattle.table_sets.specs.Stepping.{Starts, ToldStill}
 use Rattle.table.specs.Words.{Builds, BuiltAs, Ready, letterSets}
-use Rattle.table.proofs.Accepting.{built-ready}
-use Rattle.stepping.proofs.BlockFrame.{SameBlock}
-use Rattle.table.proofs.Judging.{ready-finals}
-use Rattle.table.proofs.BuiltFrame.{built-kept, built-pruned}
+use Rattle.table.proofs.Laws.{built-kept, built-pruned, built-ready, ready-finals}
+use Rattle.table_sets.proofs.Laws.{SameBlock}
 use Rattle.compare.specs.Answers.{Loaded}
 
 -- what building leaves where it answers tables

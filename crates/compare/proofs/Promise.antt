@@ -10,12 +10,10 @@ use lib.Seq.{drop-at, take-at}
 use Rattle.automata.specs.Automaton.{Automaton, WellFormed}
 use Rattle.automata.specs.Pairs.{Right, Verdict, different, pairOf, pairs, same, verdict}
 use Rattle.automata.specs.Unfolding.{acceptedBytes, configurations, plainArcs}
-use Rattle.automata.proofs.Laws.{comparing, comparing-more, pairing, reaching-more}
-use Rattle.automata.proofs.LanguageLaws.{same-language}
+use Rattle.automata.proofs.Laws.{comparing, comparing-more, pairing, reaching-more, same-language}
 use Rattle.format.specs.Decoding.{automatonOf}
 use Rattle.format.specs.Refusals.{FirstHolds, faultOf, unlessRefused}
-use Rattle.file_laws.proofs.Promise.{valid-automaton}
-use Rattle.file_laws.proofs.Refusals.{NoneHolds, Outcome, at-least, first-exactly, first-some, no-fault, none-first, refused-or-not, same-letters}
+use Rattle.file_laws.proofs.Laws.{NoneHolds, Outcome, at-least, first-exactly, first-some, no-fault, none-first, refused-or-not, same-letters, valid-automaton}
 use Rattle.compare.specs.Comparing.{answerAt, bufferOf, comparedAt, comparisonOf, tests, told}
 use Rattle.compare.specs.Compares.{Compares, Shown, ShownBy}
 use Rattle.compare.specs.Promised.{OneRule, Premises, Promised, SameEnds, conditions}

@@ -8,10 +8,9 @@ use lib.Dec.{T, ltb, ltb→lt, lt→ltb}
 use lib.ListN.{length}
 use Rattle.automata.specs.Automaton.{Automaton}
 use Rattle.automata.specs.Unfolding.{plainArcs}
-use Rattle.automata.proofs.Laws.{comparing-more}
-use Rattle.automata.proofs.ListLaws.{iff-trans, or-iff}
+use Rattle.automata.proofs.Laws.{comparing-more, iff-trans, or-iff}
 use Rattle.format.specs.Decoding.{automatonOf}
-use Rattle.file_laws.proofs.Refusals.{Decide, decided, fault-decided, less-decided, less-iff, letters-decided, reach-decided}
+use Rattle.file_laws.proofs.Laws.{Decide, decided, fault-decided, less-decided, less-iff, letters-decided, reach-decided}
 use Rattle.compare.specs.Comparing.{automataTests, tests}
 use Rattle.compare.specs.Promised.{automataConditions, conditions}
 

@@ -13,9 +13,7 @@ use Rattle.automata.specs.Pairs.{OneAccepts, Shows}
 use Rattle.automata.specs.Search.{Over}
 use Rattle.automata.specs.Unfolding.{acceptedBytes, configurations}
 use Rattle.automata.specs.Words.{Language, Spells}
-use Rattle.automata.proofs.Laws.{membership}
-use Rattle.automata.proofs.ListLaws.{at-some}
-use Rattle.automata.proofs.WordLaws.{spelled-both}
+use Rattle.automata.proofs.Laws.{at-some, membership, spelled-both}
 use Rattle.compare.specs.Compares.{OnlyOne, Shown}
 
 -- a word over the letters of an alphabet is spelled by their bytes

@@ -3,14 +3,14 @@ ghost use mathlib.Core.Path.{_≡_};
 ghost use Prim.Native.Nat.{_≤_};
 ghost use lib.ListN.{length};
 ghost use Rattle.automata.specs.Automaton.{Automaton};
-ghost use Rattle.search.specs.Searching.{Ready};
+ghost use Rattle.compare_search.specs.Searching.{Ready};
 ghost use Rattle.compare.specs.Answers.{Answers, Comparable, pairTest};
 use super::Comparison;
-use pairs::Grown;
-use search::explore_pairs;
-use shown::first_difference;
-use shown::judge_pair;
-use shown::put_word;
+use compare_pairs::Grown;
+use compare_search::explore_pairs;
+use compare_witness::first_difference;
+use compare_witness::judge_pair;
+use compare_witness::put_word;
 
 // All pairs are explored, whether or not one of them differs, and the first that differs is shown. f and g are the sets of the final
 // configurations; the letters are those of both. Refuses 23: more than 512 pairs.

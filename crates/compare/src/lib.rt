@@ -2,8 +2,8 @@
 ghost use mathlib.Core.Path.{_≡_};
 ghost use lib.ListN.{length};
 ghost use Rattle.compare.specs.Compares.{Compares};
-use joining::files::Files;
-use joining::files::read_files;
+use join_parts::files::Files;
+use join_parts::files::read_files;
 use loading::compare_files;
 
 mod deciding;

@@ -4,19 +4,19 @@ ghost use mathlib.Core.Path.{_≡_};
 ghost use Prim.Native.Nat.{_≤_};
 ghost use lib.ListN.{length};
 ghost use Rattle.format.specs.Decoding.{automatonOf};
-ghost use Rattle.joining.specs.Joining.{Joinable};
-ghost use Rattle.pairs.specs.Map.{firstBlock};
+ghost use Rattle.join_parts.specs.Joining.{Joinable};
+ghost use Rattle.compare_pairs.specs.Map.{firstBlock};
 ghost use Rattle.compare.specs.Answers.{FilesAnswer, Loaded, firstTests, secondTests};
 use super::Comparison;
 use super::deciding::decide;
-use explore::Explored;
-use explore::map::FIRST_BLOCK;
-use explore::map::FIRST_SETS;
-use explore::map::SECOND_BLOCK;
 use format::Counts;
-use stepping::pruning::prune;
 use table::block::build;
 use table::finals::final_set;
+use table_explore::Explored;
+use table_explore::map::FIRST_BLOCK;
+use table_explore::map::FIRST_SETS;
+use table_explore::map::SECOND_BLOCK;
+use table_sets::pruning::prune;
 
 // The first automaton is built already, and f is the set of its final configurations; the second is built now, and both are compared.
 // Cost: what building and comparing take.

@@ -3,11 +3,11 @@
 // is the name of the file of words, then its lines with the answer's sign in place of the one that stands there.
 ghost use Prim.Native.Nat.{_≤_};
 ghost use lib.ListN.{length};
-use console::files::Loaded;
-use console::files::load;
-use console::refusals::tell_refusal;
-use console::words::say;
-use console::words::say_argument;
+use book_console::files::Loaded;
+use book_console::files::load;
+use book_console::refusals::tell_refusal;
+use book_console::words::say;
+use book_console::words::say_argument;
 use table::Membership;
 
 // A line of the answer.

@@ -5,10 +5,10 @@ use mathlib.Core.List.{List}
 use Prim.Native.Nat.{ℕ, _≤_}
 use borrow.Author.Tests.{leb-true}
 use lib.ListN.{length, getD, drop}
-use Rattle.file_parts.specs.declared.Counts.{Counts}
-use Rattle.file_parts.specs.declared.Reading.the-variants.{Valid}
-use Rattle.file_parts.specs.Parts.{wellFields, wellOps, arcSize, arcTests, firstFault}
-use Rattle.file_parts.proofs.Tests.{Hold, valid-hold}
+use Rattle.file_fields.specs.declared.Counts.{Counts}
+use Rattle.file_fields.specs.declared.Reading.the-variants.{Valid}
+use Rattle.file_fields.specs.Parts.{wellFields, wellOps, arcSize, arcTests, firstFault}
+use Rattle.file_fields.proofs.Laws.{Hold, valid-hold}
 
 pub record ArcSeen (c : Counts) (l : List ℕ) : Type 0 where
   pub fields : wellFields c l ≡ true

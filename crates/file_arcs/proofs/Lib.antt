@@ -1,1 +1,2 @@
 pub mod ArcSeen
+pub mod Laws

@@ -3,13 +3,13 @@
 ghost use mathlib.Core.Path.{_≡_};
 ghost use Prim.Native.Nat.{_+_, _*_, _<_, _≤_};
 ghost use lib.ListN.{length, getD, drop};
-ghost use Rattle.file_parts.specs.Parts.{wellFields, wellOp, wellOps, arcTests, arcsTests, firstFault};
-use file_parts::Counts;
-use file_parts::Reading;
-use file_parts::fields::arc_size;
-use file_parts::fields::byte;
-use file_parts::fields::operation_kind;
-use file_parts::fields::operation_register;
+ghost use Rattle.file_fields.specs.Parts.{wellFields, wellOp, wellOps, arcTests, arcsTests, firstFault};
+use file_fields::Counts;
+use file_fields::Reading;
+use file_fields::fields::arc_size;
+use file_fields::fields::byte;
+use file_fields::fields::operation_kind;
+use file_fields::fields::operation_register;
 
 // Whether the two bytes at a place are an operation.
 fn is_operation(c: Counts, s: &[u8], at: usize) -> bool

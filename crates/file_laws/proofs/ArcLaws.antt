@@ -10,14 +10,14 @@ use borrow.Author.Tests.{leb-true, ltb-true, eqb-true, eqb-false, eq-eqb}
 use lib.Dec.{leb, ltb, eqb}
 use lib.ListN.{length, getD, drop, length-drop}
 use Rattle.automata.specs.Automaton.{reads, writes, KeepsZero}
-use Rattle.file_parts.specs.declared.Counts.{Counts}
-use Rattle.file_parts.specs.Parts.{wellOp, wellOps, arcSize, arcTests, arcsTests}
+use Rattle.file_fields.specs.declared.Counts.{Counts}
+use Rattle.file_fields.specs.Parts.{wellOp, wellOps, arcSize, arcTests, arcsTests}
 use Rattle.format.specs.Decoding.{opOf, opsOf, letterOf, arcOf, arcsOf}
 use Rattle.format.specs.Placed.{whole, OkOps, OkArcs}
 use Rattle.automata.specs.Lists.{Each}
-use Rattle.automata.proofs.ListLaws.{each-split}
-use Rattle.file_parts.proofs.Tests.{and-both, all-hold, Holds, Hold}
-use Rattle.file_arcs.proofs.ArcSeen.{ArcSeen, arc-seen}
+use Rattle.automata.proofs.Laws.{each-split}
+use Rattle.file_fields.proofs.Laws.{Hold, Holds, all-hold, and-both}
+use Rattle.file_arcs.proofs.Laws.{ArcSeen, arc-seen}
 use Rattle.file_laws.proofs.Fitting.{OpFits, ArcFits}
 
 -- ---- an operation

@@ -10,17 +10,17 @@ use lib.Dec.{eqb, ltb}
 use lib.ListN.{length, drop, take, length-append, length-map}
 use lib.Seq.{drop-drop, take-at, drop-at}
 use Rattle.automata.specs.Automaton.{Op, reads, writes, Arc, Automaton, register, symbol, KeepsZero}
-use Rattle.file_parts.specs.declared.Counts.{Counts}
-use Rattle.file_parts.specs.declared.Reading.the-variants.{Valid}
-use Rattle.file_parts.specs.Parts.{countsOf, letterBytes, ascending, flagBytes, firstArc, flags, wellFields, wellOp, wellOps, arcSize, arcTests, arcsTests}
+use Rattle.file_fields.specs.declared.Counts.{Counts}
+use Rattle.file_fields.specs.declared.Reading.the-variants.{Valid}
+use Rattle.file_fields.specs.Parts.{countsOf, letterBytes, ascending, flagBytes, firstArc, flags, wellFields, wellOp, wellOps, arcSize, arcTests, arcsTests}
 use Rattle.format.specs.Reading.{readingOf}
 use Rattle.format.specs.Decoding.{opOf, opsOf, letterOf, arcOf, arcsOf, isFinal, decoded, automatonOf}
 use Rattle.format.specs.Encoding.{sizes, flagByte, kind, opsBytes, letterByte, arcBytes, arcsBytes, bytesOf}
 use Rattle.format.specs.Limits.{Ranges, Fits}
 use Rattle.automata.specs.Lists.{Each}
-use Rattle.automata.proofs.ListLaws.{each-join}
-use Rattle.file_parts.proofs.Tests.{Holds, Hold}
-use Rattle.format.proofs.Seen.{HeaderSeen}
+use Rattle.automata.proofs.Laws.{each-join}
+use Rattle.file_fields.proofs.Laws.{Hold, Holds}
+use Rattle.format.proofs.Laws.{HeaderSeen}
 use Rattle.file_laws.proofs.Fitting.{OpFits, ArcFits, arcs-fit}
 use Rattle.file_laws.proofs.ValidLaws.{seen-file}
 

@@ -4,7 +4,7 @@ use mathlib.Core.List.{List, [], _∷_, _++_, map}
 use Prim.Native.Nat.{ℕ}
 use lib.ListN.{take, set}
 use Rattle.automata.specs.Examples.{automatonT}
-use Rattle.file_parts.specs.declared.Reading.the-variants.{Valid, Refused}
+use Rattle.file_fields.specs.declared.Reading.the-variants.{Valid, Refused}
 use Rattle.format.specs.Reading.{readingOf}
 use Rattle.format.specs.Decoding.{automatonOf}
 use Rattle.format.specs.Encoding.{bytesOf}

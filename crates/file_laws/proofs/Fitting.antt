@@ -5,13 +5,13 @@ use mathlib.Core.Option.{some}
 use Prim.Native.Nat.{ℕ, _≤_, _<_}
 use lib.ListN.{length}
 use Rattle.automata.specs.Automaton.{Op, Arc, Automaton, register, symbol, KeepsZero}
-use Rattle.file_parts.specs.declared.Counts.{Counts}
-use Rattle.file_parts.specs.Parts.{ascending}
+use Rattle.file_fields.specs.declared.Counts.{Counts}
+use Rattle.file_fields.specs.Parts.{ascending}
 use Rattle.format.specs.Encoding.{sizes}
 use Rattle.format.specs.Limits.{Ranges, Fits}
-use Rattle.file_parts.proofs.LetterLaws.{ascending-apart}
+use Rattle.file_fields.proofs.Laws.{ascending-apart}
 use Rattle.automata.specs.Lists.{Each}
-use Rattle.automata.proofs.ListLaws.{each-mem, mem-each}
+use Rattle.automata.proofs.Laws.{each-mem, mem-each}
 
 pub record OpFits (c : Counts) (o : Op) : Type 0 where
   pub inside : register o < c .registers

@@ -9,15 +9,15 @@ use borrow.Author.Tests.{leb-true, le-leb, lt-leb}
 use lib.Dec.{leb}
 use lib.ListN.{length, getD, drop, length-drop, length-append, List·getD-append}
 use lib.Seq.{take-append-le, drop-append-le}
-use Rattle.file_parts.specs.declared.Counts.{Counts}
-use Rattle.file_parts.specs.declared.Reading.the-variants.{Valid, Refused}
-use Rattle.file_parts.specs.Parts.{two, marked, countsOf, part, ascending, firstArc, flags, wellFields, wellOp, wellOps, arcSize, arcTests, arcsTests, headerTests, firstFault}
+use Rattle.file_fields.specs.declared.Counts.{Counts}
+use Rattle.file_fields.specs.declared.Reading.the-variants.{Valid, Refused}
+use Rattle.file_fields.specs.Parts.{two, marked, countsOf, part, ascending, firstArc, flags, wellFields, wellOp, wellOps, arcSize, arcTests, arcsTests, headerTests, firstFault}
 use Rattle.format.specs.Reading.{bodyTests, readingOf}
 use Rattle.format.specs.Limits.{Ranges}
-use Rattle.automata.proofs.ListLaws.{each-split}
-use Rattle.file_parts.proofs.Tests.{Holds, Hold, hold-valid}
-use Rattle.file_arcs.proofs.ArcSeen.{ArcSeen, arc-seen}
-use Rattle.format.proofs.Seen.{HeaderSeen, seen-header, after-header}
+use Rattle.automata.proofs.Laws.{each-split}
+use Rattle.file_fields.proofs.Laws.{Hold, Holds, hold-valid}
+use Rattle.file_arcs.proofs.Laws.{ArcSeen, arc-seen}
+use Rattle.format.proofs.Laws.{HeaderSeen, after-header, seen-header}
 use Rattle.file_laws.proofs.ValidLaws.{FileSeen, file-seen}
 
 module _ (t : List ℕ) (more : 0 < length t) where

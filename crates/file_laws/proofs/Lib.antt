@@ -11,3 +11,4 @@ pub mod RefusalLaws
 pub mod FrontLaws
 pub mod ArcLaws
 pub mod Fitting
+pub mod Laws

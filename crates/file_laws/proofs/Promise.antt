@@ -9,15 +9,15 @@ use borrow.Author.Tests.{leb-true}
 use lib.Dec.{leb}
 use lib.ListN.{length}
 use Rattle.automata.specs.Automaton.{Automaton, WellFormed}
-use Rattle.file_parts.specs.declared.Counts.{Counts}
-use Rattle.file_parts.specs.declared.Reading.{Reading}
-use Rattle.file_parts.specs.declared.Reading.the-variants.{Valid, Refused}
-use Rattle.file_parts.specs.Parts.{countsOf}
+use Rattle.file_fields.specs.declared.Counts.{Counts}
+use Rattle.file_fields.specs.declared.Reading.{Reading}
+use Rattle.file_fields.specs.declared.Reading.the-variants.{Valid, Refused}
+use Rattle.file_fields.specs.Parts.{countsOf}
 use Rattle.format.specs.Reading.{fileTests, readingOf}
 use Rattle.format.specs.Decoding.{automatonOf}
 use Rattle.format.specs.Encoding.{sizes, bytesOf}
 use Rattle.format.specs.Limits.{Fits, Bytes}
-use Rattle.file_parts.proofs.Tests.{and-both}
+use Rattle.file_fields.proofs.Laws.{and-both}
 use Rattle.file_laws.proofs.RefusalLaws.{FirstFails, refused-first, first-refused, refused-number, Known, tests-known}
 use Rattle.file_laws.proofs.FrontLaws.{shorter-refused, longer-refused}
 use Rattle.file_laws.proofs.ValidLaws.{valid-sizes, valid-fits, valid-wellFormed}

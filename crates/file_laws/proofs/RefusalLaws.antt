@@ -6,12 +6,12 @@ use Prim.Native.Nat.{ℕ, zero, suc}
 use native.Mathlib.Omega.{arith}
 use lib.Dec.{leb}
 use lib.ListN.{drop}
-use Rattle.file_parts.specs.declared.Counts.{Counts}
-use Rattle.file_parts.specs.declared.Reading.the-variants.{Refused}
-use Rattle.file_parts.specs.Parts.{countsOf, firstArc, arcSize, arcsTests, firstFault}
+use Rattle.file_fields.specs.declared.Counts.{Counts}
+use Rattle.file_fields.specs.declared.Reading.the-variants.{Refused}
+use Rattle.file_fields.specs.Parts.{countsOf, firstArc, arcSize, arcsTests, firstFault}
 use Rattle.format.specs.Reading.{fileTests}
 use Rattle.automata.specs.Lists.{Each}
-use Rattle.file_parts.proofs.Tests.{Hold}
+use Rattle.file_fields.proofs.Laws.{Hold}
 
 -- a refused file's tests are some that hold, one that fails with the number of the refusal, and others ..
 pub record FirstFails (n : ℕ) (l : List (Bool × ℕ)) : Type 0 where

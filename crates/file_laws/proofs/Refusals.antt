@@ -13,14 +13,13 @@ use Rattle.automata.specs.Automaton.{Automaton, Reachable}
 use Rattle.automata.specs.Counting.{MoreThan}
 use Rattle.automata.specs.Lists.{sameBy}
 use Rattle.automata.specs.Unfolding.{configurations}
-use Rattle.automata.proofs.Laws.{reaching-more}
-use Rattle.automata.proofs.ListLaws.{eqb-iff, iff-trans, not-iff, sameBy-iff}
-use Rattle.file_parts.specs.Parts.{numberOf}
+use Rattle.automata.proofs.Laws.{eqb-iff, iff-trans, not-iff, reaching-more, sameBy-iff}
+use Rattle.file_fields.specs.Parts.{numberOf}
 use Rattle.format.specs.Reading.{readingOf}
 use Rattle.format.specs.Refusals.{FirstHolds, faultOf, unlessRefused}
-use Rattle.file_parts.specs.declared.Counts.{Counts}
-use Rattle.file_parts.specs.declared.Reading.{Reading}
-use Rattle.file_parts.specs.declared.Reading.the-variants.{Refused as Fault, Valid}
+use Rattle.file_fields.specs.declared.Counts.{Counts}
+use Rattle.file_fields.specs.declared.Reading.{Reading}
+use Rattle.file_fields.specs.declared.Reading.the-variants.{Refused as Fault, Valid}
 use Rattle.file_laws.proofs.Promise.{number-range}
 
 -- ---- tests and conditions

@@ -8,19 +8,18 @@ use native.Mathlib.Omega.{arith}
 use borrow.Author.Tests.{leb-true, le-leb}
 use lib.ListN.{length, drop, length-drop, length-take, length-map}
 use Rattle.automata.specs.Automaton.{Automaton, WellFormed}
-use Rattle.file_parts.specs.declared.Counts.{Counts}
-use Rattle.file_parts.specs.declared.Reading.the-variants.{Valid}
-use Rattle.file_parts.specs.Parts.{countsOf, letterBytes, ascending, flagBytes, firstArc, flags, arcSize, arcsTests, headerTests}
+use Rattle.file_fields.specs.declared.Counts.{Counts}
+use Rattle.file_fields.specs.declared.Reading.the-variants.{Valid}
+use Rattle.file_fields.specs.Parts.{countsOf, letterBytes, ascending, flagBytes, firstArc, flags, arcSize, arcsTests, headerTests}
 use Rattle.format.specs.Reading.{bodyTests, fileTests, readingOf}
 use Rattle.format.specs.Decoding.{arcsOf, isFinal, decoded, automatonOf}
 use Rattle.format.specs.Encoding.{sizes}
 use Rattle.format.specs.Limits.{Ranges, Fits}
 use Rattle.format.specs.Placed.{whole, OkArcs, Lies}
 use Rattle.automata.specs.Lists.{Each}
-use Rattle.automata.proofs.ListLaws.{each-join}
-use Rattle.file_parts.proofs.Tests.{Holds, Hold, valid-hold, hold-valid}
-use Rattle.file_parts.proofs.Steps.{letters-length}
-use Rattle.format.proofs.Seen.{HeaderSeen, header-seen, seen-header}
+use Rattle.automata.proofs.Laws.{each-join}
+use Rattle.file_fields.proofs.Laws.{Hold, Holds, hold-valid, letters-length, valid-hold}
+use Rattle.format.proofs.Laws.{HeaderSeen, header-seen, seen-header}
 use Rattle.file_laws.proofs.Fitting.{ArcFits, fits-by}
 use Rattle.file_laws.proofs.ArcLaws.{ArcsSeen, arcs-seen, arcs-count}
 

@@ -6,12 +6,12 @@ use Prim.Native.Nat.{ℕ, _≤_}
 use borrow.Author.Tests.{leb-true, le-leb, eqb-true, eq-eqb}
 use lib.Dec.{leb}
 use lib.ListN.{length}
-use Rattle.file_parts.specs.declared.Counts.{Counts}
-use Rattle.file_parts.specs.declared.Reading.the-variants.{Valid, Refused}
-use Rattle.file_parts.specs.Parts.{two, marked, countsOf, inRange, headerTests, firstFault}
+use Rattle.file_fields.specs.declared.Counts.{Counts}
+use Rattle.file_fields.specs.declared.Reading.the-variants.{Valid, Refused}
+use Rattle.file_fields.specs.Parts.{two, marked, countsOf, inRange, headerTests, firstFault}
 use Rattle.format.specs.Reading.{bodyTests, readingOf}
 use Rattle.format.specs.Limits.{Ranges}
-use Rattle.file_parts.proofs.Tests.{all-hold, Hold, valid-hold, andThen, fault-append}
+use Rattle.file_fields.proofs.Laws.{Hold, all-hold, andThen, fault-append, valid-hold}
 
 -- ---- the counts' ranges
 pub ranges-of : (c : Counts) → inRange c ≡ true → Ranges c

@@ -5,8 +5,8 @@ use mathlib.Core.Option.{Option, none, some}
 use Prim.Native.Nat.{ℕ, zero, suc, _/_, _%_}
 use lib.Dec.{eqb}
 use lib.ListN.{getD, drop}
-use Rattle.file_parts.specs.declared.Counts.{Counts}
-use Rattle.file_parts.specs.Parts.{countsOf, letterBytes, flagBytes, firstArc, arcSize}
+use Rattle.file_fields.specs.declared.Counts.{Counts}
+use Rattle.file_fields.specs.Parts.{countsOf, letterBytes, flagBytes, firstArc, arcSize}
 use Rattle.automata.specs.Automaton.{Op, reads, writes, Arc, Automaton}
 
 -- an operation's two bytes: kind times 16 plus register, and a symbol; kind 0 reads

@@ -4,7 +4,7 @@ use mathlib.Core.List.{List, [], _∷_, _++_, map}
 use mathlib.Core.Option.{Option, none, some}
 use Prim.Native.Nat.{ℕ, _+_, _*_, _/_, _%_}
 use lib.ListN.{length}
-use Rattle.file_parts.specs.declared.Counts.{Counts}
+use Rattle.file_fields.specs.declared.Counts.{Counts}
 use Rattle.automata.specs.Automaton.{Op, reads, writes, register, symbol, Arc, Automaton}
 
 -- an automaton's counts

@@ -4,8 +4,8 @@ use mathlib.Core.Bool.{true}
 use mathlib.Core.List.{List, List·Memᴰ}
 use Prim.Native.Nat.{ℕ, _≤_, _<_}
 use lib.ListN.{length, getD}
-use Rattle.file_parts.specs.declared.Counts.{Counts}
-use Rattle.file_parts.specs.Parts.{ascending}
+use Rattle.file_fields.specs.declared.Counts.{Counts}
+use Rattle.file_fields.specs.Parts.{ascending}
 use Rattle.format.specs.Encoding.{sizes}
 use Rattle.automata.specs.Automaton.{Arc, Automaton, WellFormed}
 

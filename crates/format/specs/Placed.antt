@@ -2,7 +2,7 @@
 use mathlib.Core.List.{List}
 use Prim.Native.Nat.{ℕ, zero, suc, _+_, _%_, _<_, _≤_}
 use lib.ListN.{length, getD, drop}
-use Rattle.file_parts.specs.Parts.{arcSize}
+use Rattle.file_fields.specs.Parts.{arcSize}
 
 -- how many bytes the m arcs at the front of l take
 unfoldable pub whole : ℕ → List ℕ → ℕ

@@ -5,9 +5,9 @@ use mathlib.Core.Bool.{Bool}
 use mathlib.Core.List.{List, _++_}
 use Prim.Native.Nat.{ℕ}
 use lib.ListN.{drop}
-use Rattle.file_parts.specs.declared.Counts.{Counts}
-use Rattle.file_parts.specs.declared.Reading.{Reading}
-use Rattle.file_parts.specs.Parts.{headerTests, countsOf, letterTests, flagTests, arcsTests, firstArc, ascending, flags, firstFault}
+use Rattle.file_fields.specs.declared.Counts.{Counts}
+use Rattle.file_fields.specs.declared.Reading.{Reading}
+use Rattle.file_fields.specs.Parts.{headerTests, countsOf, letterTests, flagTests, arcsTests, firstArc, ascending, flags, firstFault}
 
 -- what follows the header
 abbrev pub bodyTests : Counts → List ℕ → List (Bool × ℕ)

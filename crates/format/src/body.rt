@@ -1,11 +1,11 @@
 // What follows the header: letters, final flags, arcs.
 ghost use mathlib.Core.Path.{_≡_};
 ghost use Prim.Native.Nat.{_≤_};
-ghost use Rattle.file_parts.specs.Parts.{ascending, flags, firstFault};
+ghost use Rattle.file_fields.specs.Parts.{ascending, flags, firstFault};
 ghost use Rattle.format.specs.Reading.{bodyTests};
 use file_arcs::read_arcs;
-use file_parts::Counts;
-use file_parts::Reading;
+use file_fields::Counts;
+use file_fields::Reading;
 
 // Whether the bytes ascend strictly.
 fn is_ascending(s: &[u8]) -> bool

@@ -2,10 +2,10 @@
 // Each function computes one definition of specs/. file_laws' proofs/Promise.antt says what callers may rely on.
 ghost use mathlib.Core.Path.{_≡_};
 ghost use Rattle.format.specs.Reading.{readingOf};
-pub use file_parts::Counts;
-pub use file_parts::Reading;
-pub use file_parts::fields;
-pub use file_parts::letters;
+pub use file_fields::Counts;
+pub use file_fields::Reading;
+pub use file_fields::fields;
+pub use file_fields::letters;
 
 mod body;
 
@@ -17,7 +17,7 @@ mod body;
 pub fn read(file: &[u8]) -> Reading
     ensures { λ r. ⌜ r ≡ readingOf (now (file .entry)) ⌝ }
 {
-    let header = file_parts::header::read_header(file);
+    let header = file_fields::header::read_header(file);
     let Reading::Valid(c) = header else {
         return header;
     };

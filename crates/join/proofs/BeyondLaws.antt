@@ -6,11 +6,11 @@ use native.Mathlib.Omega.{arith}
 use lib.Dec.{T, ltb, ltb→lt}
 use Rattle.automata.specs.Automaton.{Automaton}
 use Rattle.automata.specs.Lists.{any}
-use Rattle.automata.proofs.ListLaws.{any-iff, each-mem, or-iff}
-use Rattle.file_parts.specs.declared.Counts.{Counts}
+use Rattle.automata.proofs.Laws.{any-iff, each-mem, or-iff}
+use Rattle.file_fields.specs.declared.Counts.{Counts}
 use Rattle.format.specs.Encoding.{sizes}
-use Rattle.joining.specs.Joining.{beyond, manyCounts, manyOps}
-use Rattle.joining.proofs.Limits.{FewOps, within}
+use Rattle.join_parts.specs.Joining.{beyond, manyCounts, manyOps}
+use Rattle.join_parts.proofs.Laws.{FewOps, within}
 use Rattle.join.specs.Promises.{Beyond, many-arcs, many-operations, many-registers, many-states}
 
 module _ (x : Automaton) where

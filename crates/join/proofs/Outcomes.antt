@@ -15,18 +15,16 @@ use Rattle.automata.proofs.Laws.{closing}
 use Rattle.format.specs.Decoding.{automatonOf}
 use Rattle.format.specs.Encoding.{bytesOf}
 use Rattle.format.specs.Limits.{Fits}
-use Rattle.file_parts.specs.Parts.{numberOf}
+use Rattle.file_fields.specs.Parts.{numberOf}
 use Rattle.format.specs.Refusals.{FirstHolds, faultOf}
-use Rattle.file_laws.proofs.Promise.{round-trip}
-use Rattle.file_laws.proofs.Refusals.{Decide, Decides, NoneHolds, Outcome, at-least, decided, fault-decided, first-exactly, first-some, less-decided, letters-decided, no-fault, none-first, refused-or-not, same-letters}
-use Rattle.file_laws.proofs.ValidLaws.{valid-fits}
-use Rattle.writing.specs.Answers.{outputOf, told}
-use Rattle.writing.specs.declared.Written.{Written}
-use Rattle.writing.specs.declared.Written.the-variants.{Bytes, Refused}
-use Rattle.joining.specs.Joining.{beyond, closeTests, closedOf, joinTests, joinedOf}
+use Rattle.file_laws.proofs.Laws.{Decide, Decides, NoneHolds, Outcome, at-least, decided, fault-decided, first-exactly, first-some, less-decided, letters-decided, no-fault, none-first, refused-or-not, round-trip, same-letters, valid-fits}
+use Rattle.file_writing.specs.Answers.{outputOf, told}
+use Rattle.file_writing.specs.declared.Written.{Written}
+use Rattle.file_writing.specs.declared.Written.the-variants.{Bytes, Refused}
+use Rattle.join_parts.specs.Joining.{beyond, closeTests, closedOf, joinTests, joinedOf}
 use Rattle.join.specs.Promises.{Alike, Beyond, Closed, FileOf, Joined, TwoJoined, closeConditions, joinConditions}
 use Rattle.join.proofs.BeyondLaws.{beyond-iff, not-beyond}
-use Rattle.closures.proofs.ClosureFits.{closure-fits}
+use Rattle.join_closure.proofs.Laws.{closure-fits}
 
 -- ---- the joined automaton x
 beyond-decided : (x : Automaton) → Decides (beyond x, 11, 0) (Beyond x, 11, 0)

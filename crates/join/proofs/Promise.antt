@@ -13,13 +13,13 @@ use Rattle.automata.proofs.Laws.{concatenating, intersecting, uniting}
 use Rattle.format.specs.Decoding.{automatonOf}
 use Rattle.format.specs.Encoding.{bytesOf}
 use Rattle.format.specs.Limits.{Fits}
-use Rattle.writing.specs.Answers.{outputOf, told}
-use Rattle.writing.specs.declared.Written.{Written}
-use Rattle.joining.specs.Joining.{beyond, closedOf, joinedOf}
-use Rattle.intersection.proofs.IntersectionFits.{intersection-fits}
+use Rattle.file_writing.specs.Answers.{outputOf, told}
+use Rattle.file_writing.specs.declared.Written.{Written}
+use Rattle.join_parts.specs.Joining.{beyond, closedOf, joinedOf}
+use Rattle.join_intersection.proofs.Laws.{intersection-fits}
 use Rattle.join.specs.Promises.{Closed, InBoth, InEither, TwoJoined}
-use Rattle.unions.proofs.UnionFits.{union-fits}
-use Rattle.concatenations.proofs.ConcatenationFits.{concatenation-fits}
+use Rattle.join_union.proofs.Laws.{union-fits}
+use Rattle.join_concatenation.proofs.Laws.{concatenation-fits}
 use Rattle.join.proofs.Outcomes.{one-closed, two-joined}
 
 -- ---- what a call that joins two files answers and leaves

@@ -11,7 +11,7 @@ use Rattle.automata.specs.Words.{Language}
 use Rattle.format.specs.Decoding.{automatonOf}
 use Rattle.format.specs.Encoding.{bytesOf}
 use Rattle.format.specs.Refusals.{FirstHolds, faultOf}
-use Rattle.writing.specs.Answers.{Told}
+use Rattle.file_writing.specs.Answers.{Told}
 
 -- ---- words of two languages (`Split`, a word of one and then a word of the other, and `Star` are automata's specs/Joins.antt)
 abbrev pub InEither : (P Q : List ℕ → Type 0) → List ℕ → Type 0

@@ -6,12 +6,12 @@ ghost use lib.ListN.{length};
 ghost use Rattle.automata.specs.Joins.{union, concatenation, intersection, closure};
 ghost use Rattle.format.specs.Decoding.{automatonOf};
 ghost use Rattle.format.specs.Encoding.{bytesOf};
-ghost use Rattle.writing.specs.Answers.{outputOf};
-ghost use Rattle.joining.specs.Joining.{joinedOf, closedOf};
+ghost use Rattle.file_writing.specs.Answers.{outputOf};
+ghost use Rattle.join_parts.specs.Joining.{joinedOf, closedOf};
+use file_writing::Written;
 use format::Reading;
-use joining::files::Files;
-use joining::files::read_files;
-use writing::Written;
+use join_parts::files::Files;
+use join_parts::files::read_files;
 
 // Writes an automaton that accepts the words of either: a new state 0 with an empty move into each.
 // Refuses, in this order: 1 to 9, the first file's fault; 1 to 9, the second's; 10, the letter lists differ; 11, the joined
@@ -24,7 +24,7 @@ pub fn union(first: &[u8], second: &[u8], out: &mut [u8]) -> Written
     let files = read_files(first, second);
     match files {
         Files::Fault(number, automaton) => Written::Refused(number, automaton),
-        Files::Both(a, b) => unions::unite(out, a, first, b, second),
+        Files::Both(a, b) => join_union::unite(out, a, first, b, second),
     }
 }
 
@@ -40,7 +40,7 @@ pub fn concatenate(first: &[u8], second: &[u8], out: &mut [u8]) -> Written
     let files = read_files(first, second);
     match files {
         Files::Fault(number, automaton) => Written::Refused(number, automaton),
-        Files::Both(a, b) => concatenations::append(out, a, first, b, second),
+        Files::Both(a, b) => join_concatenation::append(out, a, first, b, second),
     }
 }
 
@@ -55,7 +55,7 @@ pub fn intersect(first: &[u8], second: &[u8], out: &mut [u8]) -> Written
     let files = read_files(first, second);
     match files {
         Files::Fault(number, automaton) => Written::Refused(number, automaton),
-        Files::Both(a, b) => intersection::product(out, a, first, b, second),
+        Files::Both(a, b) => join_intersection::product(out, a, first, b, second),
     }
 }
 
@@ -71,5 +71,5 @@ pub fn close(file: &[u8], out: &mut [u8]) -> Written
     let Reading::Valid(a) = reading else {
         return Written::Refused(reading.number(), 1);
     };
-    closures::repeat(out, a, file)
+    join_closure::repeat(out, a, file)
 }

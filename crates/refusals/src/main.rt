@@ -1,7 +1,7 @@
 // refusals: writes what each refusal's number means, one a line.
-use console::refusals::say_meaning;
-use console::words::say;
-use console::words::say_number;
+use book_console::refusals::say_meaning;
+use book_console::words::say;
+use book_console::words::say_number;
 
 fn is_refusal(number: u8) -> bool {
     (number >= 1 && number <= 11) || (number >= 21 && number <= 25)

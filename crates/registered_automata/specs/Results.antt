@@ -3,12 +3,12 @@
 use mathlib.Core.Path.{_≡_}
 use mathlib.Core.List.{List}
 use Prim.Native.Nat.{ℕ}
-use Rattle.file_parts.specs.declared.Reading.{Reading as ReadingAnswer}
-use Rattle.file_parts.specs.declared.Reading.the-variants.{Valid, Refused as Fault}
+use Rattle.file_fields.specs.declared.Reading.{Reading as ReadingAnswer}
+use Rattle.file_fields.specs.declared.Reading.the-variants.{Valid, Refused as Fault}
 use Rattle.table.specs.declared.Membership.{Membership as MembershipAnswer}
 use Rattle.table.specs.declared.Membership.the-variants.{Accepted, Rejected, Refused}
-use Rattle.writing.specs.declared.Written.{Written as WrittenAnswer}
-use Rattle.writing.specs.declared.Written.the-variants.{Bytes, Refused as Unwritten}
+use Rattle.file_writing.specs.declared.Written.{Written as WrittenAnswer}
+use Rattle.file_writing.specs.declared.Written.the-variants.{Bytes, Refused as Unwritten}
 use Rattle.compare.specs.declared.Comparison.{Comparison as ComparisonAnswer}
 use Rattle.compare.specs.declared.Comparison.the-variants.{Same, Different, Refused as Uncompared}
 use Rattle.compare.specs.Compares.{Compares}

@@ -90,16 +90,16 @@ pub fn as_membership(r: table::Membership) -> Membership
     }
 }
 
-pub fn as_written(r: writing::Written) -> Written
+pub fn as_written(r: file_writing::Written) -> Written
     ensures { λ x. ⌜ x ≡ writtenFields r ⌝ }
 {
     match r {
-        writing::Written::Bytes(n) => Written {
+        file_writing::Written::Bytes(n) => Written {
             length: n as u64,
             number: 0,
             automaton: 0,
         },
-        writing::Written::Refused(n, b) => Written {
+        file_writing::Written::Refused(n, b) => Written {
             length: 0,
             number: n,
             automaton: b,

@@ -9,22 +9,21 @@ use lib.Dec.{T}
 use lib.ListN.{length}
 use Rattle.automata.specs.Automaton.{Automaton, WellFormed, letters}
 use Rattle.automata.specs.Unfolding.{configurations}
-use Rattle.passing.specs.Arcs.{Indexed, Linked, Walkable}
-use Rattle.explore.specs.Explores.{Explores, exploredOf}
-use Rattle.passing.specs.Map.{Placed}
-use Rattle.meeting.specs.declared.Explored.the-variants.{Tables, TooMany}
-use Rattle.meeting.proofs.Tabling.{configured-kept}
+use Rattle.table_operations.specs.Arcs.{Indexed, Linked, Walkable}
+use Rattle.table_explore.specs.Explores.{Explores, exploredOf}
+use Rattle.table_operations.specs.Map.{Placed}
+use Rattle.table_configurations.specs.declared.Explored.the-variants.{Tables, TooMany}
+use Rattle.table_configurations.proofs.Laws.{configured-kept}
 use Rattle.format.specs.Decoding.{automatonOf, decoded}
-use Rattle.file_parts.specs.Parts.{numberOf}
+use Rattle.file_fields.specs.Parts.{numberOf}
 use Rattle.format.specs.Reading.{readingOf}
 use Rattle.format.specs.Refusals.{faultOf}
-use Rattle.file_parts.specs.declared.Counts.{Counts}
-use Rattle.file_parts.specs.declared.Reading.the-variants.{Refused as Fault, Valid}
-use Rattle.file_parts.proofs.Steps.{letters-length}
-use Rattle.file_laws.proofs.Refusals.{has-fault}
-use Rattle.file_laws.proofs.ValidLaws.{valid-decoded, valid-lies, valid-ranges, valid-wellFormed}
-use Rattle.memory.specs.Frame.{Kept}
-use Rattle.sets.specs.Rows.{Closure, Link, related}
+use Rattle.file_fields.specs.declared.Counts.{Counts}
+use Rattle.file_fields.specs.declared.Reading.the-variants.{Refused as Fault, Valid}
+use Rattle.file_fields.proofs.Laws.{letters-length}
+use Rattle.file_laws.proofs.Laws.{has-fault, valid-decoded, valid-lies, valid-ranges, valid-wellFormed}
+use Rattle.word_fields.specs.Frame.{Kept}
+use Rattle.word_sets.specs.Rows.{Closure, Link, related}
 use Rattle.table.specs.FileSteps.{Findable}
 use Rattle.table.specs.Membership.{judged, membershipOf}
 use Rattle.table.specs.Words.{Builds, Built, Ready, Stored, letterSets}

@@ -17,23 +17,21 @@ use Rattle.automata.specs.Automaton.{Automaton, Configuration, Run, letters, si
 use Rattle.automata.specs.Lists.{countFrom}
 use Rattle.automata.specs.Live.{Moves, PlainArc, epsilonClosure, table}
 use Rattle.automata.specs.Unfolding.{configurations, plainAll, plainArcs}
-use Rattle.automata.proofs.ListLaws.{at-map, at-mem, getElem?-lt, getElem?-some, iff-trans, mem-at}
-use Rattle.automata.proofs.LiveLaws.{epsilonClosure-closed, epsilonClosure-iff, in-table, length-rounds, length-table, run-below}
-use Rattle.automata.proofs.UnfoldingLaws.{first-configuration, within}
-use Rattle.explore.specs.Explores.{Block, Explores, exploredOf, startOf}
-use Rattle.passing.specs.Map.{arcsAt, configs, mapEnd, startsAt}
-use Rattle.meeting.specs.Tables.{fieldsOf, listed}
-use Rattle.meeting.specs.declared.Explored.the-variants.{Tables, TooMany}
-use Rattle.meeting.proofs.Frames.{part-same}
+use Rattle.automata.proofs.Laws.{at-map, at-mem, epsilonClosure-closed, epsilonClosure-iff, first-configuration, getElem?-lt, getElem?-some, iff-trans, in-table, length-rounds, length-table, mem-at, run-below, within}
+use Rattle.table_explore.specs.Explores.{Block, Explores, exploredOf, startOf}
+use Rattle.table_operations.specs.Map.{arcsAt, configs, mapEnd, startsAt}
+use Rattle.table_configurations.specs.Tables.{fieldsOf, listed}
+use Rattle.table_configurations.specs.declared.Explored.the-variants.{Tables, TooMany}
+use Rattle.table_configurations.proofs.Laws.{part-same}
 use Rattle.format.specs.Encoding.{letterByte}
-use Rattle.memory.specs.Fields.{field}
-use Rattle.memory.specs.Frame.{Kept}
-use Rattle.memory.proofs.Laws.{field-same}
-use Rattle.sets.specs.Sets.{Settled, view}
-use Rattle.sets.specs.Rows.{Link, Closure, here, next, related, row}
-use Rattle.sets.proofs.Laws.{view-is}
-use Rattle.stepping.proofs.BlockFrame.{held-each}
-use Rattle.stepping.specs.Stepping.{Among, endAt, startAt}
+use Rattle.word_fields.specs.Fields.{field}
+use Rattle.word_fields.specs.Frame.{Kept}
+use Rattle.word_fields.proofs.Laws.{field-same}
+use Rattle.word_sets.specs.Sets.{Settled, view}
+use Rattle.word_sets.specs.Rows.{Link, Closure, here, next, related, row}
+use Rattle.word_sets.proofs.Laws.{view-is}
+use Rattle.table_sets.proofs.Laws.{held-each}
+use Rattle.table_sets.specs.Stepping.{Among, endAt, startAt}
 use Rattle.table.specs.Words.{Built, Stored}
 use Rattle.table.proofs.PlainPlaces.{before-le, before-rises, source-at}
 

@@ -4,10 +4,9 @@ use mathlib.Core.List.{List}
 use Prim.Native.Nat.{_+_, _≤_, ℕ}
 use native.Mathlib.Omega.{arith}
 use Rattle.automata.specs.Automaton.{Automaton, letters}
-use Rattle.passing.specs.Map.{KeptBut, arcsAt, blockEnd}
-use Rattle.stepping.specs.Stepping.{Starts, ToldStill}
-use Rattle.stepping.proofs.BlockFrame.{SameBlock, held-same, list-kept, related-kept, starts-kept}
-use Rattle.stepping.proofs.Thinning.{rows-kept}
+use Rattle.table_operations.specs.Map.{KeptBut, arcsAt, blockEnd}
+use Rattle.table_sets.specs.Stepping.{Starts, ToldStill}
+use Rattle.table_sets.proofs.Laws.{SameBlock, held-same, list-kept, related-kept, rows-kept, starts-kept}
 use Rattle.table.specs.Words.{Built}
 
 -- words were written elsewhere

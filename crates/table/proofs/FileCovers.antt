@@ -9,24 +9,21 @@ use Rattle.automata.specs.Lists.{Each}
 use Rattle.automata.specs.Live.{Moves}
 use Rattle.automata.specs.Performing.{Move, successors}
 use Rattle.automata.specs.Unfolding.{configurations, plainArcs, sameConfiguration}
-use Rattle.automata.proofs.ListLaws.{each-at, each-mem, getElem?-lt}
-use Rattle.automata.proofs.NumberLaws.{one-number}
-use Rattle.automata.proofs.PerformingLaws.{successors-iff}
-use Rattle.automata.proofs.UnfoldingLaws.{distinct, moves-from, moves-to, sameConfiguration-iff, within}
-use Rattle.passing.specs.Map.{configs, mapEnd}
-use Rattle.passing.specs.Packed.{Hop, hops, pack}
-use Rattle.meeting.specs.Tables.{Configured}
-use Rattle.passing.proofs.Meaning.{Good, Packs, hops-packed, pack-inj, packHop}
-use Rattle.explore.proofs.Walked.{configurations-packed}
+use Rattle.automata.proofs.Laws.{distinct, each-at, each-mem, getElem?-lt, moves-from, moves-to, one-number, sameConfiguration-iff, successors-iff, within}
+use Rattle.table_operations.specs.Map.{configs, mapEnd}
+use Rattle.table_operations.specs.Packed.{Hop, hops, pack}
+use Rattle.table_configurations.specs.Tables.{Configured}
+use Rattle.table_operations.proofs.Laws.{Good, Packs, hops-packed, pack-inj, packHop}
+use Rattle.table_explore.proofs.Laws.{configurations-packed}
 use Rattle.format.specs.Decoding.{decoded}
 use Rattle.format.specs.Placed.{Lies}
-use Rattle.file_parts.specs.Parts.{firstArc}
-use Rattle.file_parts.specs.declared.Counts.{Counts}
-use Rattle.memory.specs.Frame.{Kept}
+use Rattle.file_fields.specs.Parts.{firstArc}
+use Rattle.file_fields.specs.declared.Counts.{Counts}
+use Rattle.word_fields.specs.Frame.{Kept}
 use Rattle.table.specs.FileSteps.{Findable, FromFile, Outgoing, Steppable}
-use Rattle.stepping.specs.Stepping.{Held}
+use Rattle.table_sets.specs.Stepping.{Held}
 use Rattle.table.specs.Words.{Built, Stored}
-use Rattle.stepping.proofs.BlockFrame.{block-kept, held-each, held-same, list-kept}
+use Rattle.table_sets.proofs.Laws.{block-kept, held-each, held-same, list-kept}
 use Rattle.table.proofs.FileVisits.{from-kept, map-kept}
 use Rattle.table.proofs.FinalLaws.{word-in}
 

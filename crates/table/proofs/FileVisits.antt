@@ -10,28 +10,27 @@ use borrow.Author.Tests.{ne-eqb}
 use lib.Dec.{T, eqb, eqb→eq}
 use lib.ListN.{drop, getD}
 use Rattle.automata.specs.Lists.{collect, prepend}
-use Rattle.automata.proofs.ListLaws.{and-iff, eqb-iff, or-iff}
-use Rattle.passing.specs.Arcs.{ArcAt, Indexed, Linked, Walkable, placeOf}
-use Rattle.passing.specs.Map.{arcHeads, arcNexts, blockEnd, configs, mapEnd, offsets}
-use Rattle.passing.specs.Packed.{Hop, hop, hopWith, hops, performPacked}
-use Rattle.passing.specs.declared.Outcome.{Outcome}
-use Rattle.passing.specs.declared.Outcome.the-variants.{Failed, Leaves}
-use Rattle.explore.proofs.Going.{hop-at}
-use Rattle.passing.proofs.Linking.{hops-chosen, hopsOf, indexed-kept, linked-kept, stateOf}
-use Rattle.passing.proofs.Places.{entry-at}
-use Rattle.meeting.proofs.Tabling.{configured-kept}
+use Rattle.automata.proofs.Laws.{and-iff, eqb-iff, or-iff}
+use Rattle.table_operations.specs.Arcs.{ArcAt, Indexed, Linked, Walkable, placeOf}
+use Rattle.table_operations.specs.Map.{arcHeads, arcNexts, blockEnd, configs, mapEnd, offsets}
+use Rattle.table_operations.specs.Packed.{Hop, hop, hopWith, hops, performPacked}
+use Rattle.table_operations.specs.declared.Outcome.{Outcome}
+use Rattle.table_operations.specs.declared.Outcome.the-variants.{Failed, Leaves}
+use Rattle.table_explore.proofs.Laws.{hop-at}
+use Rattle.table_operations.proofs.Laws.{entry-at, hops-chosen, hopsOf, indexed-kept, linked-kept, stateOf}
+use Rattle.table_configurations.proofs.Laws.{configured-kept}
 use Rattle.format.specs.Decoding.{letterOf}
-use Rattle.file_parts.specs.Parts.{firstArc}
-use Rattle.file_parts.specs.declared.Counts.{Counts}
-use Rattle.memory.specs.Chains.{Found, WordAt, last}
-use Rattle.memory.specs.Fields.{field}
-use Rattle.memory.specs.Frame.{Kept}
-use Rattle.memory.proofs.Laws.{OnChain, chosen, chosen-off, chosen-on, field-same, kept-same, kept-then, last-is, off-chain, on-chain}
-use Rattle.sets.specs.Sets.{inSet}
-use Rattle.sets.specs.Rows.{related}
+use Rattle.file_fields.specs.Parts.{firstArc}
+use Rattle.file_fields.specs.declared.Counts.{Counts}
+use Rattle.word_fields.specs.Chains.{Found, WordAt, last}
+use Rattle.word_fields.specs.Fields.{field}
+use Rattle.word_fields.specs.Frame.{Kept}
+use Rattle.word_fields.proofs.Laws.{OnChain, chosen, chosen-off, chosen-on, field-same, kept-same, kept-then, last-is, off-chain, on-chain}
+use Rattle.word_sets.specs.Sets.{inSet}
+use Rattle.word_sets.specs.Rows.{related}
 use Rattle.table.specs.FileSteps.{Findable, FromFile, Led, Steppable}
-use Rattle.stepping.specs.Stepping.{Room, setOf}
-use Rattle.stepping.proofs.BlockFrame.{SameBlock, block-kept, related-kept, room-kept, starts-kept}
+use Rattle.table_sets.specs.Stepping.{Room, setOf}
+use Rattle.table_sets.proofs.Laws.{SameBlock, block-kept, related-kept, room-kept, starts-kept}
 
 -- ---- one arc
 -- the arc at a place passes from `own` with letter p and leads to j

@@ -16,17 +16,15 @@ use Rattle.automata.specs.Lists.{Each}
 use Rattle.automata.specs.Live.{in?}
 use Rattle.automata.specs.Performing.{Move, successors}
 use Rattle.automata.specs.Unfolding.{configurations, finalSet, sameConfiguration, targetsOf}
-use Rattle.automata.proofs.ExplorationLaws.{known-sound}
-use Rattle.automata.proofs.ListLaws.{and-iff, at-map, at-mem, at-some, each-at, getElem?-some}
-use Rattle.automata.proofs.PerformingLaws.{successors-iff}
-use Rattle.passing.specs.Map.{configs}
-use Rattle.passing.specs.Packed.{pack}
-use Rattle.passing.proofs.Meaning.{Good, state-of}
+use Rattle.automata.proofs.Laws.{and-iff, at-map, at-mem, at-some, each-at, getElem?-some, known-sound, successors-iff}
+use Rattle.table_operations.specs.Map.{configs}
+use Rattle.table_operations.specs.Packed.{pack}
+use Rattle.table_operations.proofs.Laws.{Good, state-of}
 use Rattle.format.specs.Decoding.{isFinal}
-use Rattle.file_parts.specs.Parts.{firstArc, flagBytes}
-use Rattle.file_parts.specs.declared.Counts.{Counts}
-use Rattle.sets.specs.Sets.{Within, inSet, view}
-use Rattle.sets.proofs.Laws.{view-is}
+use Rattle.file_fields.specs.Parts.{firstArc, flagBytes}
+use Rattle.file_fields.specs.declared.Counts.{Counts}
+use Rattle.word_sets.specs.Sets.{Within, inSet, view}
+use Rattle.word_sets.proofs.Laws.{view-is}
 use Rattle.table.specs.Finals.{flagPlace, isFinalIn, stateIn}
 
 -- ---- a set made by a test of one number after the other: it holds those below i that pass

@@ -13,14 +13,14 @@ use Rattle.automata.specs.Lists.{Each}
 use Rattle.automata.specs.Live.{count, epsilonClosure, live, liveFrom, meets, table}
 use Rattle.automata.specs.Unfolding.{accepted, acceptedBytes, configurations, finalSet, liveCount, liveSet, plainArcs, spelledOr}
 use Rattle.automata.specs.Words.{spelling}
-use Rattle.passing.proofs.Meaning.{Good}
-use Rattle.explore.proofs.Walked.{configurations-packed}
+use Rattle.table_operations.proofs.Laws.{Good}
+use Rattle.table_explore.proofs.Laws.{configurations-packed}
 use Rattle.format.specs.Decoding.{decoded, isFinal}
-use Rattle.file_parts.specs.Parts.{firstArc, flagBytes}
-use Rattle.file_parts.specs.declared.Counts.{Counts}
-use Rattle.sets.specs.Sets.{Within, inSet, view}
-use Rattle.sets.specs.Rows.{row}
-use Rattle.sets.proofs.Laws.{count-none, count-within, meets-view}
+use Rattle.file_fields.specs.Parts.{firstArc, flagBytes}
+use Rattle.file_fields.specs.declared.Counts.{Counts}
+use Rattle.word_sets.specs.Sets.{Within, inSet, view}
+use Rattle.word_sets.specs.Rows.{row}
+use Rattle.word_sets.proofs.Laws.{count-none, count-within, meets-view}
 use Rattle.table.specs.Finals.{flagPlace, isFinalIn, stateIn}
 use Rattle.table.specs.Membership.{judged}
 use Rattle.table.specs.Words.{Built, Ready, liveBytes}

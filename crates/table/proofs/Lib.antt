@@ -8,3 +8,4 @@ pub mod WordSteps
 pub mod Judging
 pub mod Accepting
 pub mod Promise
+pub mod Laws

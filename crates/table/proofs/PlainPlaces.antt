@@ -11,7 +11,7 @@ use Rattle.automata.specs.Automaton.{Automaton, Configuration}
 use Rattle.automata.specs.Live.{PlainArc}
 use Rattle.automata.specs.Performing.{Move, successors}
 use Rattle.automata.specs.Unfolding.{plainAll, plainFrom}
-use Rattle.automata.proofs.ListLaws.{at-back, at-front, getElem?-lt, none-some}
+use Rattle.automata.proofs.Laws.{at-back, at-front, getElem?-lt, none-some}
 
 -- a place in l ++ r is one in l, or one in r behind l
 append-place : {A : Type 0} (l r : List A) (n : ℕ) {a : A} → getElem? (l ++ r) n ≡ some a → (getElem? l n ≡ some a) ⊎ ((length l ≤ n) × (getElem? r (n - length l) ≡ some a))

@@ -15,8 +15,7 @@ use Rattle.automata.specs.Words.{Language, LiveAfter}
 use Rattle.automata.proofs.Laws.{membership, reaching-more}
 use Rattle.format.specs.Decoding.{automatonOf}
 use Rattle.format.specs.Refusals.{FirstHolds, faultOf}
-use Rattle.file_laws.proofs.Promise.{valid-automaton}
-use Rattle.file_laws.proofs.Refusals.{Decide, NoneHolds, Outcome, at-least, fault-decided, first-exactly, first-some, less-decided, no-fault, none-first, reach-decided, refused-or-not}
+use Rattle.file_laws.proofs.Laws.{Decide, NoneHolds, Outcome, at-least, fault-decided, first-exactly, first-some, less-decided, no-fault, none-first, reach-decided, refused-or-not, valid-automaton}
 use Rattle.table.specs.Membership.{judged, membershipOf, tests, told}
 use Rattle.table.specs.Promised.{Answered, Promised, conditions}
 use Rattle.table.specs.declared.Membership.{Membership}

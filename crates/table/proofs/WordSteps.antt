@@ -17,15 +17,15 @@ use Rattle.automata.specs.Exploration.{number}
 use Rattle.automata.specs.Live.{PlainArc, byLetter, liveFrom, table}
 use Rattle.automata.specs.Unfolding.{plainArcs, spelledOr}
 use Rattle.automata.specs.Words.{letterWith, spelling}
-use Rattle.automata.proofs.ListLaws.{only-iff}
-use Rattle.file_parts.specs.Letters.{letterFrom, letterNumber}
-use Rattle.file_parts.specs.declared.Counts.{Counts}
-use Rattle.file_parts.specs.declared.letters.Letter.{Letter}
-use Rattle.file_parts.specs.declared.letters.Letter.the-variants.{At, None}
-use Rattle.memory.specs.Frame.{Kept}
-use Rattle.memory.proofs.Laws.{kept-same, kept-then}
-use Rattle.sets.specs.Sets.{Settled, Within, view}
-use Rattle.sets.proofs.Laws.{empty-set, table-ext}
+use Rattle.automata.proofs.Laws.{only-iff}
+use Rattle.file_fields.specs.Letters.{letterFrom, letterNumber}
+use Rattle.file_fields.specs.declared.Counts.{Counts}
+use Rattle.file_fields.specs.declared.letters.Letter.{Letter}
+use Rattle.file_fields.specs.declared.letters.Letter.the-variants.{At, None}
+use Rattle.word_fields.specs.Frame.{Kept}
+use Rattle.word_fields.proofs.Laws.{kept-same, kept-then}
+use Rattle.word_sets.specs.Sets.{Settled, Within, view}
+use Rattle.word_sets.proofs.Laws.{empty-set, table-ext}
 use Rattle.table.specs.FileSteps.{Outgoing}
 use Rattle.table.specs.Words.{Built, Stored, letterSets, liveBytes}
 

@@ -7,14 +7,14 @@ use Prim.Native.Nat.{ℕ, _+_, _<_, _≤_}
 use lib.Dec.{T}
 use lib.ListN.{drop, getD}
 use Rattle.automata.specs.Live.{PlainArc}
-use Rattle.passing.specs.Arcs.{Indexed, Linked, Walkable}
-use Rattle.passing.specs.Map.{configs}
-use Rattle.passing.specs.Packed.{Hop, hops}
-use Rattle.meeting.specs.Tables.{Configured}
-use Rattle.file_parts.specs.Parts.{firstArc}
-use Rattle.file_parts.specs.declared.Counts.{Counts}
-use Rattle.sets.specs.Rows.{related}
-use Rattle.stepping.specs.Stepping.{FromList, Held, Room, Starts}
+use Rattle.table_operations.specs.Arcs.{Indexed, Linked, Walkable}
+use Rattle.table_operations.specs.Map.{configs}
+use Rattle.table_operations.specs.Packed.{Hop, hops}
+use Rattle.table_configurations.specs.Tables.{Configured}
+use Rattle.file_fields.specs.Parts.{firstArc}
+use Rattle.file_fields.specs.declared.Counts.{Counts}
+use Rattle.word_sets.specs.Rows.{related}
+use Rattle.table_sets.specs.Stepping.{FromList, Held, Room, Starts}
 
 -- one of these passing arcs has letter l, and the row of the configuration that it leads to, one of the `known`, has j
 pub record Led (w : List ℕ) (base known : ℕ) (hs : List Hop) (l j : ℕ) : Type 0 where

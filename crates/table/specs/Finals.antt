@@ -3,9 +3,9 @@ use mathlib.Core.Bool.{Bool}
 use mathlib.Core.List.{List}
 use Prim.Native.Nat.{_+_, _/_, _^_, ℕ}
 use lib.ListN.{getD}
-use Rattle.passing.specs.Map.{configs}
+use Rattle.table_operations.specs.Map.{configs}
 use Rattle.format.specs.Decoding.{isFinal}
-use Rattle.file_parts.specs.declared.Counts.{Counts}
+use Rattle.file_fields.specs.declared.Counts.{Counts}
 
 -- the state of configuration i, which stands above the 32 bits of its registers
 abbrev pub stateIn : List ℕ → ℕ → ℕ

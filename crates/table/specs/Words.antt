@@ -10,16 +10,16 @@ use Rattle.automata.specs.Automaton.{Automaton, Run, WellFormed, letters}
 use Rattle.automata.specs.Live.{Moves, liveFrom, table}
 use Rattle.automata.specs.Unfolding.{configurations, plainArcs, spelledOr}
 use Rattle.automata.specs.Words.{spelling}
-use Rattle.explore.specs.Explores.{exploredOf}
-use Rattle.passing.specs.Map.{configs, mapEnd}
-use Rattle.passing.specs.Packed.{pack}
-use Rattle.meeting.specs.declared.Explored.{Explored}
-use Rattle.meeting.specs.declared.Explored.the-variants.{Tables, TooMany}
+use Rattle.table_explore.specs.Explores.{exploredOf}
+use Rattle.table_operations.specs.Map.{configs, mapEnd}
+use Rattle.table_operations.specs.Packed.{pack}
+use Rattle.table_configurations.specs.declared.Explored.{Explored}
+use Rattle.table_configurations.specs.declared.Explored.the-variants.{Tables, TooMany}
 use Rattle.format.specs.Decoding.{decoded}
-use Rattle.file_parts.specs.declared.Counts.{Counts}
-use Rattle.sets.specs.Rows.{related}
+use Rattle.file_fields.specs.declared.Counts.{Counts}
+use Rattle.word_sets.specs.Rows.{related}
 use Rattle.table.specs.FileSteps.{Findable, Steppable}
-use Rattle.stepping.specs.Stepping.{FromList, Held, Starts}
+use Rattle.table_sets.specs.Stepping.{FromList, Held, Starts}
 
 -- where the sets of the letters stand
 abbrev pub letterSets : ℕ

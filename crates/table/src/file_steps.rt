@@ -8,26 +8,26 @@ ghost use lib.Dec.{T};
 ghost use lib.ListN.{drop};
 ghost use Rattle.automata.specs.Lists.{prepend};
 ghost use Rattle.automata.specs.Live.{PlainArc, byLetter};
-ghost use Rattle.passing.specs.Arcs.{ArcAt, Indexed, Linked, Walkable};
-ghost use Rattle.passing.specs.Map.{mapEnd};
-ghost use Rattle.passing.specs.Packed.{hop};
-ghost use Rattle.memory.specs.Frame.{Kept};
-ghost use Rattle.sets.specs.Sets.{inSet, view, Settled};
-ghost use Rattle.stepping.specs.Stepping.{setOf, Held, Room};
+ghost use Rattle.table_operations.specs.Arcs.{ArcAt, Indexed, Linked, Walkable};
+ghost use Rattle.table_operations.specs.Map.{mapEnd};
+ghost use Rattle.table_operations.specs.Packed.{hop};
+ghost use Rattle.word_fields.specs.Frame.{Kept};
+ghost use Rattle.word_sets.specs.Sets.{inSet, view, Settled};
+ghost use Rattle.table_sets.specs.Stepping.{setOf, Held, Room};
 ghost use Rattle.table.specs.FileSteps.{Led, FromFile, Findable};
-use explore::Outcome;
-use explore::map::ARC_HEADS;
-use explore::map::ARC_NEXTS;
-use explore::map::CONFIG_HEADS;
-use explore::map::CONFIG_NEXTS;
-use explore::map::CONFIGS;
-use explore::map::OFFSETS;
-use explore::operations::pass;
 use format::Counts;
 use format::fields::byte;
-use memory::chains::find_word;
-use memory::get16;
-use stepping::into;
+use table_explore::Outcome;
+use table_explore::map::ARC_HEADS;
+use table_explore::map::ARC_NEXTS;
+use table_explore::map::CONFIG_HEADS;
+use table_explore::map::CONFIG_NEXTS;
+use table_explore::map::CONFIGS;
+use table_explore::map::OFFSETS;
+use table_explore::operations::pass;
+use table_sets::into;
+use word_fields::chains::find_word;
+use word_fields::get16;
 
 // The arc at a place of the file, from the configuration `own`: where it has a letter and passes, the row of the configuration that
 // it leads to joins the set of its letter.
@@ -89,7 +89,7 @@ fn visit_file(
     out
 }
 
-// The live set after one more letter, for each letter, as `stepping::step` leaves it.
+// The live set after one more letter, for each letter, as `table_sets::step` leaves it.
 // Cost: what `take_arc` takes for each arc that leaves the state of a live configuration.
 pub fn step_file(
     file: &[u8],
@@ -107,10 +107,10 @@ pub fn step_file(
         → (view known (setOf (now (w .exit)) acc r l) ≡ byLetter known arcs (view known set) l) × Settled known arcs (setOf (now (w .exit)) acc r l)) ⌝ }
 {
     let mut met: u64 = 0;
-    let mut c = sets::next_live(set, 0);
+    let mut c = word_sets::next_live(set, 0);
     while c < known {
         met = visit_file(file, counts, w, base, acc, known, c, met);
-        c = sets::next_live(set, c + 1);
+        c = word_sets::next_live(set, c + 1);
     }
     met
 }

@@ -4,11 +4,11 @@ ghost use mathlib.Core.Bool.{_&&_};
 ghost use Prim.Native.Nat.{ℕ, _+_, _≤_, _<_};
 ghost use lib.Dec.{ltb};
 ghost use lib.ListN.{length};
-ghost use Rattle.passing.specs.Map.{configs};
-ghost use Rattle.sets.specs.Sets.{inSet};
+ghost use Rattle.table_operations.specs.Map.{configs};
+ghost use Rattle.word_sets.specs.Sets.{inSet};
 ghost use Rattle.table.specs.Finals.{stateIn, flagPlace, isFinalIn};
-use explore::map::CONFIGS;
 use format::Counts;
+use table_explore::map::CONFIGS;
 
 // The final ones among the first `known` configurations, of the automaton whose file has the counts c.
 // Cost: one look at each configuration.
@@ -17,12 +17,12 @@ pub fn final_set(file: &[u8], c: Counts, w: &[u64], known: usize) -> [u64; 4]
     ensures { λ r. ⌜ ((j : ℕ) → inSet r j ≡ (ltb j known && isFinalIn (now (file .entry)) c (now (w .entry)) j)) ⌝ }
 {
     let flags = 12 + c.letters;
-    let mut out = sets::empty();
+    let mut out = word_sets::empty();
     let mut i: usize = 0;
     while i < known {
         let state = (w[CONFIGS + i] >> 32) as usize;
         if file[flags + state] == 1 {
-            let more = sets::with(out, i);
+            let more = word_sets::with(out, i);
             out = more;
         }
         i += 1;

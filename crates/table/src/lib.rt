@@ -3,8 +3,8 @@ ghost use mathlib.Core.Path.{_≡_};
 ghost use lib.ListN.{length};
 ghost use Rattle.table.specs.Membership.{membershipOf};
 use block::build;
-use explore::Explored;
-use explore::map::FIRST_BLOCK;
+use table_explore::Explored;
+use table_explore::map::FIRST_BLOCK;
 use words::judge_word;
 
 pub mod block;

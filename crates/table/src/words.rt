@@ -5,23 +5,23 @@ ghost use Prim.Native.Nat.{ℕ, _+_, _≤_, _<_};
 ghost use lib.ListN.{length};
 ghost use Rattle.automata.specs.Live.{PlainArc, byLetter};
 ghost use Rattle.automata.specs.Unfolding.{plainArcs};
-ghost use Rattle.passing.specs.Map.{blockEnd};
+ghost use Rattle.table_operations.specs.Map.{blockEnd};
 ghost use Rattle.format.specs.Decoding.{decoded};
-ghost use Rattle.letter_chains.specs.Lettered.{sources, letteredEnd, Lettered};
-ghost use Rattle.memory.specs.Frame.{Kept};
-ghost use Rattle.sets.specs.Sets.{view, Settled, Within};
+ghost use Rattle.table_letters.specs.Lettered.{sources, letteredEnd, Lettered};
+ghost use Rattle.word_fields.specs.Frame.{Kept};
+ghost use Rattle.word_sets.specs.Sets.{view, Settled, Within};
 ghost use Rattle.table.specs.FileSteps.{Outgoing, Steppable};
 ghost use Rattle.table.specs.Words.{letterSets, Built, Stored, Ready, liveBytes};
 ghost use Rattle.table.specs.Membership.{judged};
 use super::Membership;
 use super::file_steps::step_file;
 use super::finals::final_set;
-use explore::map::FIRST_SETS;
 use format::Counts;
 use format::letters::Letter;
-use letter_chains::follow;
-use letter_chains::link;
-use stepping::set_of;
+use table_explore::map::FIRST_SETS;
+use table_letters::follow;
+use table_letters::link;
+use table_sets::set_of;
 
 // The live set after the letter l: by the listed arcs with that letter where all plain arcs are listed, else by the arcs in the file.
 // Cost: one step for each listed arc with the letter; where they are not listed, one for each operation of the arcs that leave the state
@@ -94,11 +94,11 @@ pub fn judge_word(
     ensures answer { λ r. ⌜ r ≡ judged 256 (decoded c (now (file .entry))) (now (word .entry)) ⌝ }
 {
     let finals = final_set(file, c, w, count);
-    let start = sets::rows::load(w, base, 0);
+    let start = word_sets::rows::load(w, base, 0);
     link(w, base, count, plain);
     let live = walk_word(file, c, word, w, base, count, plain, start);
-    let many = sets::size(live) as u64;
-    if sets::meets(live, finals) {
+    let many = word_sets::size(live) as u64;
+    if word_sets::meets(live, finals) {
         Membership::Accepted(many)
     } else {
         Membership::Rejected(many)

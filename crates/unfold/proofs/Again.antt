@@ -13,11 +13,7 @@ use Rattle.automata.specs.Lists.{Each}
 use Rattle.automata.specs.Live.{PlainArc, in?}
 use Rattle.automata.specs.Performing.{Move, successors}
 use Rattle.automata.specs.Unfolding.{asArc, configurations, finalSet, plainAll, plainArcs, plainFrom, sameConfiguration, targetsOf, unfolded}
-use Rattle.automata.proofs.ListLaws.{at-map, at-mem, at-some, bool-ext, getElem?-lt, map-map, mem-at, mem-each}
-use Rattle.automata.proofs.Mapped.{known-map, number-map}
-use Rattle.automata.proofs.NumberLaws.{number-at, one-number}
-use Rattle.automata.proofs.PerformingLaws.{successors-iff}
-use Rattle.automata.proofs.UnfoldingLaws.{distinct, first-configuration, moves-to, sameConfiguration-iff}
+use Rattle.automata.proofs.Laws.{at-map, at-mem, at-some, bool-ext, distinct, first-configuration, getElem?-lt, known-map, map-map, mem-at, mem-each, moves-to, number-at, number-map, one-number, sameConfiguration-iff, successors-iff}
 use Rattle.unfold.proofs.PlainMoves.{numbered, plain-successors, plainMove, plainly}
 
 map-each : {A B : Type 0} (f g : A → B) (l : List A) → Each (λ x. f x ≡ g x) l → map f l ≡ map g l

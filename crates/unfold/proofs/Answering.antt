@@ -7,18 +7,18 @@ use borrow.Author.Tests.{le-ltb, lt-ltb}
 use lib.ListN.{length}
 use Rattle.automata.specs.Automaton.{Automaton}
 use Rattle.automata.specs.Unfolding.{configurations, plainArcs, unfolded}
-use Rattle.meeting.specs.declared.Explored.the-variants.{TooMany}
-use Rattle.explore.specs.Explores.{exploredOf}
-use Rattle.file_parts.specs.declared.Counts.{Counts}
-use Rattle.file_parts.specs.declared.Reading.the-variants.{Refused as Fault, Valid}
+use Rattle.table_configurations.specs.declared.Explored.the-variants.{TooMany}
+use Rattle.table_explore.specs.Explores.{exploredOf}
+use Rattle.file_fields.specs.declared.Counts.{Counts}
+use Rattle.file_fields.specs.declared.Reading.the-variants.{Refused as Fault, Valid}
 use Rattle.format.specs.Decoding.{automatonOf}
 use Rattle.format.specs.Encoding.{bytesOf}
-use Rattle.file_parts.specs.Parts.{numberOf}
+use Rattle.file_fields.specs.Parts.{numberOf}
 use Rattle.format.specs.Reading.{readingOf}
 use Rattle.format.specs.Refusals.{faultOf}
-use Rattle.file_laws.proofs.Refusals.{has-fault}
-use Rattle.table.proofs.Building.{explored-many}
-use Rattle.writing.specs.declared.Written.the-variants.{Bytes, Refused}
+use Rattle.file_laws.proofs.Laws.{has-fault}
+use Rattle.table.proofs.Laws.{explored-many}
+use Rattle.file_writing.specs.declared.Written.the-variants.{Bytes, Refused}
 use Rattle.unfold.specs.Unfolding.{resultOf, unfoldingOf}
 
 -- ---- once the configurations are known to be few enough

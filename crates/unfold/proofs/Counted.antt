@@ -9,7 +9,7 @@ use native.Mathlib.Omega.{arith}
 use lib.ListN.{length}
 use Rattle.automata.specs.Lists.{countFrom}
 use Rattle.automata.specs.Live.{table}
-use Rattle.file_parts.proofs.Steps.{down, none-left}
+use Rattle.file_fields.proofs.Laws.{down, none-left}
 
 module _ {A : Type 0} (f : ℕ → A) where
   -- one step, and the end

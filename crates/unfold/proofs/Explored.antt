@@ -13,22 +13,22 @@ use lib.ListN.{drop, getElem?, length, length-map}
 use Rattle.automata.specs.Automaton.{Automaton, Configuration, WellFormed, letters, states}
 use Rattle.automata.specs.Lists.{Each}
 use Rattle.automata.specs.Unfolding.{asArc, configurations, finalSet, plainArcs, unfolded}
-use Rattle.meeting.specs.declared.Explored.the-variants.{Tables, TooMany}
-use Rattle.explore.specs.Explores.{Explores, exploredOf}
-use Rattle.passing.proofs.Meaning.{Good}
-use Rattle.explore.proofs.Walked.{configurations-packed}
-use Rattle.file_parts.specs.declared.Counts.{Counts}
-use Rattle.file_parts.specs.declared.Reading.the-variants.{Valid}
+use Rattle.table_configurations.specs.declared.Explored.the-variants.{Tables, TooMany}
+use Rattle.table_explore.specs.Explores.{Explores, exploredOf}
+use Rattle.table_operations.proofs.Laws.{Good}
+use Rattle.table_explore.proofs.Laws.{configurations-packed}
+use Rattle.file_fields.specs.declared.Counts.{Counts}
+use Rattle.file_fields.specs.declared.Reading.the-variants.{Valid}
 use Rattle.format.specs.Decoding.{automatonOf, decoded, isFinal}
 use Rattle.format.specs.Encoding.{arcsBytes, bytesOf, flagByte, headerBytes}
-use Rattle.file_parts.specs.Parts.{firstArc, flagBytes}
+use Rattle.file_fields.specs.Parts.{firstArc, flagBytes}
 use Rattle.format.specs.Reading.{readingOf}
-use Rattle.file_laws.proofs.ValidLaws.{file-seen, valid-arcs, valid-decoded, valid-lies, valid-ranges, valid-sizes, valid-wellFormed}
-use Rattle.sets.specs.Sets.{inSet, view}
-use Rattle.sets.proofs.Laws.{length-view}
+use Rattle.file_laws.proofs.Laws.{file-seen, valid-arcs, valid-decoded, valid-lies, valid-ranges, valid-sizes, valid-wellFormed}
+use Rattle.word_sets.specs.Sets.{inSet, view}
+use Rattle.word_sets.proofs.Laws.{length-view}
 use Rattle.table.specs.Finals.{flagPlace, isFinalIn, stateIn}
-use Rattle.stepping.specs.Stepping.{Starts}
-use Rattle.table.proofs.FinalLaws.{configurations-states, final-view, flag-inside}
+use Rattle.table_sets.specs.Stepping.{Starts}
+use Rattle.table.proofs.Laws.{configurations-states, final-view, flag-inside}
 use Rattle.unfold.specs.Listed.{arcsOfMany, plainCounts}
 use Rattle.unfold.proofs.Listing.{arcs-listed, starts-listed}
 use Rattle.unfold.proofs.PlainFits.{some-configuration}

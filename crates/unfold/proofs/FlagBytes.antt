@@ -5,10 +5,10 @@ use Prim.Native.Nat.{_-_, ℕ}
 use native.Mathlib.Omega.{arith}
 use lib.ListN.{length, length-map}
 use Rattle.automata.specs.Lists.{countFrom}
-use Rattle.automata.proofs.ListLaws.{map-map}
+use Rattle.automata.proofs.Laws.{map-map}
 use Rattle.format.specs.Encoding.{flagByte}
-use Rattle.sets.specs.Sets.{inSet, view}
-use Rattle.arc_writing.proofs.ArcBytes.{count-length}
+use Rattle.word_sets.specs.Sets.{inSet, view}
+use Rattle.file_arc_writing.proofs.Laws.{count-length}
 use Rattle.unfold.proofs.Counted.{table-counted}
 
 abbrev pub flagIn : List ℕ → ℕ → ℕ

@@ -2,10 +2,10 @@
 use mathlib.Core.Path.{_≡_}
 use mathlib.Core.List.{List, [], _++_}
 use Prim.Native.Nat.{_+_, _-_, _<_, _≤_, ℕ}
-use Rattle.passing.specs.Map.{arcsAt}
+use Rattle.table_operations.specs.Map.{arcsAt}
 use Rattle.format.specs.Encoding.{arcBytes, arcsBytes}
-use Rattle.memory.specs.Fields.{field}
-use Rattle.writing.proofs.FileParts.{arcs-append}
+use Rattle.word_fields.specs.Fields.{field}
+use Rattle.file_writing.proofs.Laws.{arcs-append}
 use Rattle.unfold.specs.Listed.{arcListed, arcsListed, arcsOfMany, arcsOfOne}
 use Rattle.unfold.proofs.Counted.{counted-next, counted-none, joined-next, joined-none}
 

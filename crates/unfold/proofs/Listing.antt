@@ -15,15 +15,15 @@ use Rattle.automata.specs.Lists.{Each, countFrom}
 use Rattle.automata.specs.Live.{PlainArc}
 use Rattle.automata.specs.Performing.{Move, successors}
 use Rattle.automata.specs.Unfolding.{asArc, configurations, plainAll, plainArcs, plainFrom, readZero}
-use Rattle.automata.proofs.ListLaws.{each-split, map-append, map-map, mem-each}
-use Rattle.explore.specs.Explores.{Block, startOf}
-use Rattle.passing.specs.Map.{arcsAt}
-use Rattle.meeting.specs.Tables.{fieldsOf, listed}
+use Rattle.automata.proofs.Laws.{each-split, map-append, map-map, mem-each}
+use Rattle.table_explore.specs.Explores.{Block, startOf}
+use Rattle.table_operations.specs.Map.{arcsAt}
+use Rattle.table_configurations.specs.Tables.{fieldsOf, listed}
 use Rattle.format.specs.Decoding.{letterOf}
 use Rattle.format.specs.Encoding.{letterByte}
-use Rattle.memory.specs.Fields.{field}
-use Rattle.stepping.specs.Stepping.{Starts, endAt, startAt}
-use Rattle.table.proofs.PlainPlaces.{before-le, before-rises}
+use Rattle.word_fields.specs.Fields.{field}
+use Rattle.table_sets.specs.Stepping.{Starts, endAt, startAt}
+use Rattle.table.proofs.Laws.{before-le, before-rises}
 use Rattle.unfold.specs.Listed.{arcListed, arcsListed, arcsOfMany}
 use Rattle.unfold.proofs.Counted.{counted-split}
 use Rattle.unfold.proofs.PlainFits.{PlainFits, plain-fit}

@@ -11,13 +11,11 @@ use Rattle.automata.specs.Lists.{Each}
 use Rattle.automata.specs.Live.{PlainArc, in?}
 use Rattle.automata.specs.Performing.{Move, successors}
 use Rattle.automata.specs.Unfolding.{asArc, configurations, finalSet, plainAll, plainArcs, plainFrom, unfolded}
-use Rattle.automata.proofs.ListLaws.{each-join, each-mem, getElem?-lt, mem-each}
-use Rattle.automata.proofs.PerformingLaws.{successors-iff}
-use Rattle.automata.proofs.UnfoldingLaws.{first-configuration, within}
+use Rattle.automata.proofs.Laws.{each-join, each-mem, first-configuration, getElem?-lt, mem-each, successors-iff, within}
 use Rattle.format.specs.Encoding.{sizes}
 use Rattle.format.specs.Limits.{Fits, Ranges}
-use Rattle.file_parts.specs.declared.Counts.{Counts}
-use Rattle.file_laws.proofs.Fitting.{ArcFits, fits-by}
+use Rattle.file_fields.specs.declared.Counts.{Counts}
+use Rattle.file_laws.proofs.Laws.{ArcFits, fits-by}
 use Rattle.unfold.specs.Listed.{plainCounts}
 
 -- a plain arc between k configurations, with one of n letters

@@ -13,7 +13,7 @@ use Rattle.automata.specs.Exploration.{number}
 use Rattle.automata.specs.Lists.{collect, prepend}
 use Rattle.automata.specs.Performing.{Move, act, along, perform, successors}
 use Rattle.automata.specs.Unfolding.{asArc, configurations, plainAll, plainArcs, plainFrom, sameConfiguration, unfolded}
-use Rattle.automata.proofs.ListLaws.{map-append, none-some}
+use Rattle.automata.proofs.Laws.{map-append, none-some}
 
 collect-append : {A B : Type 0} (g : A → Option B) (l r : List A) → collect g (l ++ r) ≡ collect g l ++ collect g r
 unfolding collect

@@ -10,19 +10,17 @@ use lib.Seq.{drop-at, take-at}
 use Rattle.automata.specs.Automaton.{Automaton}
 use Rattle.automata.specs.Unfolding.{configurations, plainArcs, unfolded}
 use Rattle.automata.proofs.Laws.{reaching-more, unfolding-language}
-use Rattle.file_parts.specs.declared.Counts.{Counts}
-use Rattle.file_parts.specs.declared.Reading.the-variants.{Valid}
+use Rattle.file_fields.specs.declared.Counts.{Counts}
+use Rattle.file_fields.specs.declared.Reading.the-variants.{Valid}
 use Rattle.format.specs.Decoding.{automatonOf}
 use Rattle.format.specs.Encoding.{bytesOf, sizes}
-use Rattle.file_parts.specs.Parts.{numberOf}
+use Rattle.file_fields.specs.Parts.{numberOf}
 use Rattle.format.specs.Reading.{readingOf}
 use Rattle.format.specs.Refusals.{FirstHolds, faultOf}
-use Rattle.file_laws.proofs.Promise.{round-trip}
-use Rattle.file_laws.proofs.Refusals.{Decide, NoneHolds, Outcome, at-least, fault-decided, first-exactly, first-some, less-decided, no-fault, none-first, reach-decided, refused-or-not}
-use Rattle.file_laws.proofs.ValidLaws.{valid-fits}
-use Rattle.writing.specs.declared.Written.{Written}
-use Rattle.writing.specs.declared.Written.the-variants.{Bytes, Refused}
-use Rattle.writing.specs.Answers.{outputOf, told}
+use Rattle.file_laws.proofs.Laws.{Decide, NoneHolds, Outcome, at-least, fault-decided, first-exactly, first-some, less-decided, no-fault, none-first, reach-decided, refused-or-not, round-trip, valid-fits}
+use Rattle.file_writing.specs.declared.Written.{Written}
+use Rattle.file_writing.specs.declared.Written.the-variants.{Bytes, Refused}
+use Rattle.file_writing.specs.Answers.{outputOf, told}
 use Rattle.unfold.specs.Promised.{Answered, Promised, Unfolds, conditions}
 use Rattle.unfold.specs.Unfolding.{tests, unfoldingOf}
 use Rattle.unfold.proofs.Again.{same-many, same-plain, unfolded-again}

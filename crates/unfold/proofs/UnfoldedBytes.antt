@@ -8,9 +8,9 @@ use Rattle.automata.specs.Automaton.{Automaton, letters}
 use Rattle.automata.specs.Live.{PlainArc}
 use Rattle.automata.specs.Unfolding.{asArc, configurations, finalSet, plainArcs, unfolded}
 use Rattle.format.specs.Encoding.{arcBytes, arcsBytes, bytesOf, flagByte, headerBytes}
-use Rattle.file_parts.specs.declared.Counts.{Counts}
-use Rattle.file_laws.proofs.EncodingLaws.{bytes-length}
-use Rattle.writing.proofs.FileParts.{bytes-from}
+use Rattle.file_fields.specs.declared.Counts.{Counts}
+use Rattle.file_laws.proofs.Laws.{bytes-length}
+use Rattle.file_writing.proofs.Laws.{bytes-from}
 use Rattle.unfold.specs.Listed.{plainCounts}
 use Rattle.unfold.proofs.PlainFits.{unfolded-sizes}
 

@@ -1,16 +1,16 @@
 -- Listed: the arcs that the words of a block list, without registers, as the writers go through them. Where a block lists its plain
--- arcs is said in crate passing, specs/Map.antt, and where those of each configuration start and end in crate stepping, specs/Stepping.antt.
+-- arcs is said in crate table_operations, specs/Map.antt, and where those of each configuration start and end in crate table_sets, specs/Stepping.antt.
 use mathlib.Core.List.{List, flatMap, map}
 use Prim.Native.Nat.{_%_, _-_, _/_, ℕ}
 use Rattle.automata.specs.Automaton.{Arc}
 use Rattle.automata.specs.Joins.{arcFrom}
 use Rattle.automata.specs.Lists.{countFrom}
 use Rattle.automata.specs.Unfolding.{readZero}
-use Rattle.passing.specs.Map.{arcsAt}
-use Rattle.file_parts.specs.declared.Counts.{Counts}
+use Rattle.table_operations.specs.Map.{arcsAt}
+use Rattle.file_fields.specs.declared.Counts.{Counts}
 use Rattle.format.specs.Decoding.{letterOf}
-use Rattle.memory.specs.Fields.{field}
-use Rattle.stepping.specs.Stepping.{endAt, startAt}
+use Rattle.word_fields.specs.Fields.{field}
+use Rattle.table_sets.specs.Stepping.{endAt, startAt}
 
 -- the plain arc from configuration s that is listed as `entry`, its letter's byte times 256 plus its target
 unfoldable pub arcListed : ℕ → ℕ → Arc

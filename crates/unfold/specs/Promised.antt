@@ -12,8 +12,8 @@ use Rattle.automata.specs.Words.{Language}
 use Rattle.format.specs.Decoding.{automatonOf}
 use Rattle.format.specs.Encoding.{bytesOf}
 use Rattle.format.specs.Refusals.{FirstHolds, faultOf}
-use Rattle.writing.specs.Answers.{Told}
-use Rattle.writing.specs.declared.Written.the-variants.{Bytes}
+use Rattle.file_writing.specs.Answers.{Told}
+use Rattle.file_writing.specs.declared.Written.the-variants.{Bytes}
 use Rattle.unfold.specs.Unfolding.{unfoldingOf}
 
 -- document 01's refusals in their order: a condition, the number, and the automaton at fault

@@ -11,8 +11,8 @@ use Rattle.automata.specs.Unfolding.{configurations, plainArcs, unfolded}
 use Rattle.format.specs.Decoding.{automatonOf}
 use Rattle.format.specs.Encoding.{bytesOf}
 use Rattle.format.specs.Refusals.{faultOf, unlessRefused}
-use Rattle.writing.specs.declared.Written.{Written}
-use Rattle.writing.specs.declared.Written.the-variants.{Bytes, Refused}
+use Rattle.file_writing.specs.declared.Written.{Written}
+use Rattle.file_writing.specs.declared.Written.the-variants.{Bytes, Refused}
 
 -- ---- the refusals in their order: a test, and where it holds the number of the refusal and the automaton at fault
 -- of an automaton with at most L configurations: 22, more than P plain arcs; 25, an output shorter than the result

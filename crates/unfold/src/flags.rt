@@ -4,9 +4,9 @@ ghost use mathlib.Core.List.{map};
 ghost use Prim.Native.Nat.{_+_, _≤_};
 ghost use lib.ListN.{length};
 ghost use Rattle.format.specs.Encoding.{flagByte};
-ghost use Rattle.sets.specs.Sets.{view};
-ghost use Rattle.writing.specs.Placing.{Appended};
-use writing::parts::write_byte;
+ghost use Rattle.word_sets.specs.Sets.{view};
+ghost use Rattle.file_writing.specs.Placing.{Appended};
+use file_writing::parts::write_byte;
 
 // 01 for a final state, else 00.
 fn flag_of(is_final: bool) -> u8
@@ -23,7 +23,7 @@ pub fn write_flags(out: &mut [u8], at: usize, finals: [u64; 4], n: usize) -> usi
     let mut next = at;
     let mut i: usize = 0;
     while i < n {
-        let flag = flag_of(sets::has(finals, i));
+        let flag = flag_of(word_sets::has(finals, i));
         next = write_byte(out, next, flag);
         i += 1;
     }

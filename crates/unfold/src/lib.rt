@@ -5,13 +5,13 @@ ghost use lib.ListN.{length};
 ghost use Rattle.automata.specs.Unfolding.{unfolded};
 ghost use Rattle.format.specs.Decoding.{automatonOf};
 ghost use Rattle.format.specs.Encoding.{bytesOf};
-ghost use Rattle.writing.specs.Answers.{outputOf};
+ghost use Rattle.file_writing.specs.Answers.{outputOf};
 ghost use Rattle.unfold.specs.Unfolding.{unfoldingOf};
-use explore::Explored;
-use explore::map::FIRST_BLOCK;
-use explore::walk::explore_all;
+use file_writing::Written;
 use result::write_result;
-use writing::Written;
+use table_explore::Explored;
+use table_explore::map::FIRST_BLOCK;
+use table_explore::walk::explore_all;
 
 mod arcs;
 mod flags;

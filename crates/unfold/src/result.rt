@@ -3,22 +3,22 @@ ghost use mathlib.Core.Path.{_≡_};
 ghost use Prim.Native.Nat.{_≤_};
 ghost use lib.ListN.{length};
 ghost use Rattle.automata.specs.Unfolding.{unfolded};
-ghost use Rattle.meeting.specs.declared.Explored.the-variants.{Tables};
-ghost use Rattle.explore.specs.Explores.{Explores};
-ghost use Rattle.passing.specs.Map.{Placed};
-ghost use Rattle.file_parts.specs.declared.Reading.the-variants.{Valid};
+ghost use Rattle.table_configurations.specs.declared.Explored.the-variants.{Tables};
+ghost use Rattle.table_explore.specs.Explores.{Explores};
+ghost use Rattle.table_operations.specs.Map.{Placed};
+ghost use Rattle.file_fields.specs.declared.Reading.the-variants.{Valid};
 ghost use Rattle.format.specs.Decoding.{automatonOf};
 ghost use Rattle.format.specs.Encoding.{bytesOf};
 ghost use Rattle.format.specs.Reading.{readingOf};
-ghost use Rattle.writing.specs.Answers.{outputOf};
-ghost use Rattle.writing.specs.Placing.{Appended};
+ghost use Rattle.file_writing.specs.Answers.{outputOf};
+ghost use Rattle.file_writing.specs.Placing.{Appended};
 ghost use Rattle.unfold.specs.Unfolding.{resultOf};
 use super::arcs::write_arcs;
 use super::flags::write_flags;
+use file_writing::Written;
+use file_writing::front::write_front;
 use format::Counts;
 use table::finals::final_set;
-use writing::Written;
-use writing::front::write_front;
 
 // The whole file: header, letters, a flag for each configuration, the plain arcs. Cost: its bytes.
 fn write_file(

@@ -3,9 +3,9 @@ use borrow.Author.Needs.{needs}
 use mathlib.Core.Path.{_≡_, _∙_, refl, sym}
 use native.Mathlib.Omega.{arith}
 use lib.ListN.{length}
-use Rattle.joining.specs.Joining.{filesOf}
-use Rattle.joining.specs.declared.files.Files.the-variants.{Both}
-use Rattle.joining.proofs.FileLaws.{both-joinable}
+use Rattle.join_parts.specs.Joining.{filesOf}
+use Rattle.join_parts.specs.declared.files.Files.the-variants.{Both}
+use Rattle.join_parts.proofs.Laws.{both-joinable}
 use Rattle.compare.proofs.Checking.{buffer-short, compares, files-both, files-fault, words-short}
 use Rattle.compare.proofs.compare.Statement.{statement}
 use Rattle.compare.proofs.compare.Tie as tie

@@ -4,9 +4,8 @@ use native.Mathlib.Omega.{arith}
 use mathlib.Core.Bool.{_&&_}
 use Prim.Native.Nat.{_+_, _-_, _*_, _≤_}
 use lib.ListN.{getD, drop}
-use Rattle.file_parts.specs.Parts.{wellOp, wellOps}
-use Rattle.file_parts.proofs.Tests.{passed, failed}
-use Rattle.file_parts.proofs.Steps.{ops-at, ops-end}
+use Rattle.file_fields.specs.Parts.{wellOp, wellOps}
+use Rattle.file_fields.proofs.Laws.{failed, ops-at, ops-end, passed}
 use Rattle.file_arcs.proofs.are_operations.Statement.{statement}
 use Rattle.file_arcs.proofs.are_operations.Tie as tie
 
@@ -26,20 +25,8 @@ turn c =
 loop-holds : tie.Need-loop-holds Inv-loop μ-loop
 loop-holds c = let p = c .before .args .p in let e : p - 0 ≡ p = omega arith in (omega arith, rw e)
 
-mul-is-operation : tie.Need-mul-is-operation Inv-loop μ-loop
-mul-is-operation c = omega arith
-
-is-operation-requires : tie.Need-is-operation-requires Inv-loop μ-loop
-is-operation-requires c κs = omega arith
-
 returns : tie.Need-returns Inv-loop μ-loop
 returns c = sym (turn (c .before .before) ∙ rw (failed (c .before .is-operation .ensures) (c .if1 .taken)))
-
-add-i : tie.Need-add-i Inv-loop μ-loop
-add-i c = omega arith
-
-loop-less : tie.Need-loop-less Inv-loop μ-loop
-loop-less c = omega arith
 
 loop-again : tie.Need-loop-again Inv-loop μ-loop
 loop-again c = (omega arith, turn (c .before .before) ∙ rw (passed (c .before .is-operation .ensures) (c .if1 .left)))
@@ -57,10 +44,10 @@ are-operations-spec =
     Inv-loop
     μ-loop
     loop-holds
-    mul-is-operation
-    is-operation-requires
+    (λ c. omega arith)
+    (λ c κs. omega arith)
     returns
-    add-i
-    loop-less
+    (λ c. omega arith)
+    (λ c. omega arith)
     loop-again
     returns-2)

@@ -2,9 +2,8 @@
 use mathlib.Core.Path.{_≡_, _∙_}
 use borrow.Author.Tests.{le-leb, lt-leb}
 use lib.ListN.{getD, drop}
-use Rattle.file_parts.specs.Parts.{wellOps, firstFault}
-use Rattle.file_parts.proofs.Tests.{passed, failed}
-use Rattle.file_parts.proofs.Steps.{tail}
+use Rattle.file_fields.specs.Parts.{wellOps, firstFault}
+use Rattle.file_fields.proofs.Laws.{failed, passed, tail}
 use borrow.Author.Needs.{needs}
 use Rattle.file_arcs.proofs.read_arc.Statement.{statement}
 use Rattle.file_arcs.proofs.read_arc.Tie as tie
@@ -20,36 +19,15 @@ returns : tie.Need-returns
 unfolding firstFault
 returns c = rw (lt-leb _ _ (c .if1 .taken))
 
-are-fields-requires : tie.Need-are-fields-requires
-are-fields-requires c κs = search needs
-
 returns-2 : tie.Need-returns-2
 unfolding firstFault
 returns-2 c = rw (le-leb _ _ (c .before .before .if1 .left), failed (c .before .are-fields .ensures) (c .if2 .taken))
-
-arc-size-requires : tie.Need-arc-size-requires
-arc-size-requires c κs = search needs
 
 returns-3 : tie.Need-returns-3
 unfolding firstFault
 returns-3 c =
     let c2 = c .before .before in
     rw (le-leb _ _ (c2 .before .before .if1 .left), passed (c2 .before .are-fields .ensures) (c2 .if2 .left), ← c .before .arc-size .ensures .0, lt-leb _ _ (c .if3 .taken))
-
-sub-are-operations : tie.Need-sub-are-operations
-sub-are-operations c = search needs
-
-part-are-operations-start : tie.Need-part-are-operations-start
-part-are-operations-start c = search needs
-
-part-are-operations-end : tie.Need-part-are-operations-end
-part-are-operations-end c = search needs
-
-byte-requires : tie.Need-byte-requires
-byte-requires c κs = search needs
-
-are-operations-requires : tie.Need-are-operations-requires
-are-operations-requires c κs = search needs
 
 returns-4 : tie.Need-returns-4
 unfolding firstFault
@@ -82,14 +60,14 @@ read-arc-spec =
     tie.close
     (tie.spec
     returns
-    are-fields-requires
+    (λ c κs. search needs)
     returns-2
-    arc-size-requires
+    (λ c κs. search needs)
     returns-3
-    sub-are-operations
-    part-are-operations-start
-    part-are-operations-end
-    byte-requires
-    are-operations-requires
+    (λ c. search needs)
+    (λ c. search needs)
+    (λ c. search needs)
+    (λ c κs. search needs)
+    (λ c κs. search needs)
     returns-4
     returns-5)

@@ -7,9 +7,8 @@ use borrow.Author.Needs.{needs}
 use borrow.Author.Tests.{le-leb, lt-leb}
 use lib.Dec.{leb}
 use lib.ListN.{length, drop, length-drop}
-use Rattle.file_parts.specs.Parts.{arcSize, arcTests, arcsTests, firstFault}
-use Rattle.file_parts.proofs.Tests.{andThen}
-use Rattle.file_parts.proofs.Steps.{tail, arcs-at, arcs-end}
+use Rattle.file_fields.specs.Parts.{arcSize, arcTests, arcsTests, firstFault}
+use Rattle.file_fields.proofs.Laws.{andThen, arcs-at, arcs-end, tail}
 use Rattle.file_arcs.proofs.ArcSeen.{arc-whole}
 use Rattle.file_arcs.proofs.read_arcs.Statement.{statement}
 use Rattle.file_arcs.proofs.read_arcs.Tie as tie
@@ -60,24 +59,6 @@ end c =
 loop-holds : tie.Need-loop-holds Inv-loop μ-loop
 loop-holds c = let m = c .before .args .c .arcs in let e : m - 0 ≡ m = omega arith in (omega arith, omega arith, rw e)
 
-sub-read-arc : tie.Need-sub-read-arc Inv-loop μ-loop
-sub-read-arc c = omega arith
-
-part-read-arc-start : tie.Need-part-read-arc-start Inv-loop μ-loop
-part-read-arc-start c = omega arith
-
-part-read-arc-end : tie.Need-part-read-arc-end Inv-loop μ-loop
-part-read-arc-end c = search needs
-
-read-arc-requires : tie.Need-read-arc-requires Inv-loop μ-loop
-read-arc-requires c κs = search needs
-
-enum-told : tie.Need-enum-told Inv-loop μ-loop
-enum-told c = search needs
-
-enum-told-2 : tie.Need-enum-told-2 Inv-loop μ-loop
-enum-told-2 c = search needs
-
 returns : tie.Need-returns Inv-loop μ-loop
 returns c = sym (turn (c .before .before) ∙ rw (c .enum-told2 .given .1))
 
@@ -86,12 +67,6 @@ arc-size-requires c κs = omega (arith, there c)
 
 add-at : tie.Need-add-at Inv-loop μ-loop
 add-at c = omega (arith, there (c .before))
-
-add-i : tie.Need-add-i Inv-loop μ-loop
-add-i c = omega arith
-
-loop-less : tie.Need-loop-less Inv-loop μ-loop
-loop-less c = omega arith
 
 loop-again : tie.Need-loop-again Inv-loop μ-loop
 loop-again c = (omega arith, omega (arith, there (c .before)), turn (c .before .before .before) ∙ rw (c .before .enum-told .given .1, c .arc-size .ensures .0))
@@ -111,17 +86,17 @@ read-arcs-spec =
     Inv-loop
     μ-loop
     loop-holds
-    sub-read-arc
-    part-read-arc-start
-    part-read-arc-end
-    read-arc-requires
-    enum-told
-    enum-told-2
+    (λ c. omega arith)
+    (λ c. omega arith)
+    (λ c. search needs)
+    (λ c κs. search needs)
+    (λ c. search needs)
+    (λ c. search needs)
     returns
     arc-size-requires
     add-at
-    add-i
-    loop-less
+    (λ c. omega arith)
+    (λ c. omega arith)
     loop-again
     returns-2
     returns-3)

@@ -1,6 +1,6 @@
 -- The file: a header that is refused is the answer, else what follows it is.
 use mathlib.Core.Path.{_≡_, sym, _∙_}
-use Rattle.file_parts.specs.Parts.{countsOf, headerTests, firstFault}
+use Rattle.file_fields.specs.Parts.{countsOf, headerTests, firstFault}
 use Rattle.format.proofs.Seen.{header-ranges, after-header, stops-at-header}
 use borrow.Author.Needs.{needs}
 use Rattle.format.proofs.read.Statement.{statement}
@@ -9,15 +9,6 @@ use Rattle.format.proofs.read.Tie as tie
 -- the header's answer, of the file
 header : (c : tie.After-read-header) → c .read-header .result ≡ firstFault (headerTests (c .before .before .args .file .now)) (countsOf (c .before .before .args .file .now))
 header c = c .read-header .ensures
-
-read-header-requires : tie.Need-read-header-requires
-read-header-requires c κs = search needs
-
-enum-known-header : tie.Need-enum-known-header
-enum-known-header c = search needs
-
-enum-told : tie.Need-enum-told
-enum-told c = search needs
 
 returns : tie.Need-returns
 returns c =
@@ -39,9 +30,9 @@ pub read-spec : {M : Type 1} → statement M
 read-spec =
     tie.close
     (tie.spec
-    read-header-requires
-    enum-known-header
-    enum-told
+    (λ c κs. search needs)
+    (λ c. search needs)
+    (λ c. search needs)
     returns
     read-body-requires
     returns-2)

@@ -2,23 +2,11 @@
 use mathlib.Core.Path.{_∙_, ap, sym, refl}
 use Prim.Native.Nat.{ℕ}
 use borrow.Author.Needs.{needs}
-use Rattle.file_parts.specs.Parts.{numberOf}
-use Rattle.writing.specs.declared.Written.the-variants.{Refused}
+use Rattle.file_fields.specs.Parts.{numberOf}
+use Rattle.file_writing.specs.declared.Written.the-variants.{Refused}
 use Rattle.join.proofs.close.Statement.{statement}
-use Rattle.joining.proofs.FileLaws.{closed-fault, closed-valid}
+use Rattle.join_parts.proofs.Laws.{closed-fault, closed-valid}
 use Rattle.join.proofs.close.Tie as tie
-
-read-requires : tie.Need-read-requires
-read-requires c κs = search needs
-
-enum-known-reading : tie.Need-enum-known-reading
-enum-known-reading c = search needs
-
-enum-told : tie.Need-enum-told
-enum-told c = search needs
-
-number-requires : tie.Need-number-requires
-number-requires c κs = search needs
 
 returns : tie.Need-returns
 returns c =
@@ -27,9 +15,6 @@ returns c =
 
 repeat-requires : tie.Need-repeat-requires
 repeat-requires c κs = sym (c .before .before .before .before .read .ensures) ∙ c .before .before .reading .given .1
-
-same-length : tie.Need-same-length
-same-length c = search needs
 
 returns-2 : tie.Need-returns-2
 returns-2 c =
@@ -42,11 +27,11 @@ pub close-spec : {M : Type 1} → statement M
 close-spec =
     tie.close
     (tie.spec
-    read-requires
-    enum-known-reading
-    enum-told
-    number-requires
+    (λ c κs. search needs)
+    (λ c. search needs)
+    (λ c. search needs)
+    (λ c κs. search needs)
     returns
     repeat-requires
-    same-length
+    (λ c. search needs)
     returns-2)

@@ -3,26 +3,14 @@ use mathlib.Core.Path.{_∙_, refl, sym}
 use borrow.Author.Needs.{needs}
 use Rattle.automata.specs.Joins.{concatenation}
 use Rattle.join.proofs.concatenate.Statement.{statement}
-use Rattle.joining.proofs.FileLaws.{both-joinable, joined-both, joined-fault}
+use Rattle.join_parts.proofs.Laws.{both-joinable, joined-both, joined-fault}
 use Rattle.join.proofs.concatenate.Tie as tie
-
-read-files-requires : tie.Need-read-files-requires
-read-files-requires c κs = search needs
-
-enum-known-files : tie.Need-enum-known-files
-enum-known-files c = search needs
-
-enum-known-files-2 : tie.Need-enum-known-files-2
-enum-known-files-2 c = search needs
 
 append-requires : tie.Need-append-requires
 append-requires c κs = both-joinable _ _ (sym (c .before .before .before .before .read-files .ensures) ∙ c .before .before .files2 .given .1)
 
 returns : tie.Need-returns
 returns c = (sym (joined-fault concatenation _ _ _ (sym (c .before .before .before .read-files .ensures) ∙ c .before .files .given .1)), refl)
-
-same-length : tie.Need-same-length
-same-length c = search needs
 
 returns-2 : tie.Need-returns-2
 returns-2 c =
@@ -35,10 +23,10 @@ pub concatenate-spec : {M : Type 1} → statement M
 concatenate-spec =
     tie.close
     (tie.spec
-    read-files-requires
-    enum-known-files
-    enum-known-files-2
+    (λ c κs. search needs)
+    (λ c. search needs)
+    (λ c. search needs)
     append-requires
     returns
-    same-length
+    (λ c. search needs)
     returns-2)

@@ -5,19 +5,10 @@ use borrow.Author.Needs.{needs}
 use Rattle.registered_automata.proofs.ra_accepts.Statement.{statement}
 use Rattle.registered_automata.proofs.ra_accepts.Tie as tie
 
-accepts-requires : tie.Need-accepts-requires
-accepts-requires c κs = search needs
-
-as-membership-requires : tie.Need-as-membership-requires
-as-membership-requires c κs = search needs
-
-same-length : tie.Need-same-length
-same-length c = search needs
-
 returns : tie.Need-returns
 returns c =
     let u = c .before .before .before in
     (u .accepts .ensures .0, c .as-membership .ensures ∙ ap membershipFields (u .accepts .ensures .1))
 
 pub ra-accepts-spec : {M : Type 1} → statement M
-ra-accepts-spec = tie.close (tie.spec accepts-requires as-membership-requires same-length returns)
+ra-accepts-spec = tie.close (tie.spec (λ c κs. search needs) (λ c κs. search needs) (λ c. search needs) returns)

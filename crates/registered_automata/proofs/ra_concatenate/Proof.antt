@@ -5,15 +5,6 @@ use borrow.Author.Needs.{needs}
 use Rattle.registered_automata.proofs.ra_concatenate.Statement.{statement}
 use Rattle.registered_automata.proofs.ra_concatenate.Tie as tie
 
-concatenate-requires : tie.Need-concatenate-requires
-concatenate-requires c κs = search needs
-
-as-written-requires : tie.Need-as-written-requires
-as-written-requires c κs = search needs
-
-same-length : tie.Need-same-length
-same-length c = search needs
-
 returns : tie.Need-returns
 returns c =
     let u = c .before .before .before in
@@ -22,4 +13,4 @@ returns c =
 
 pub ra-concatenate-spec : {M : Type 1} → statement M
 ra-concatenate-spec =
-    tie.close (tie.spec concatenate-requires as-written-requires same-length returns)
+    tie.close (tie.spec (λ c κs. search needs) (λ c κs. search needs) (λ c. search needs) returns)

@@ -5,18 +5,6 @@ use borrow.Author.Needs.{needs}
 use Rattle.registered_automata.proofs.ra_unfold.Statement.{statement}
 use Rattle.registered_automata.proofs.ra_unfold.Tie as tie
 
-unfold-requires : tie.Need-unfold-requires
-unfold-requires c κs = search needs
-
-as-written-requires : tie.Need-as-written-requires
-as-written-requires c κs = search needs
-
-same-length : tie.Need-same-length
-same-length c = search needs
-
-same-length-2 : tie.Need-same-length-2
-same-length-2 c = search needs
-
 returns : tie.Need-returns
 returns c =
     let u = c .before .before .before .before .before in
@@ -24,4 +12,4 @@ returns c =
     (told .0, (c .as-written .ensures ∙ ap writtenFields (told .1 .0), rw (← told .1 .0) (told .1 .1)))
 
 pub ra-unfold-spec : {M : Type 1} → statement M
-ra-unfold-spec = tie.close (tie.spec unfold-requires as-written-requires same-length same-length-2 returns)
+ra-unfold-spec = tie.close (tie.spec (λ c κs. search needs) (λ c κs. search needs) (λ c. search needs) (λ c. search needs) returns)

@@ -5,15 +5,6 @@ use borrow.Author.Needs.{needs}
 use Rattle.registered_automata.proofs.ra_union.Statement.{statement}
 use Rattle.registered_automata.proofs.ra_union.Tie as tie
 
-union-requires : tie.Need-union-requires
-union-requires c κs = search needs
-
-as-written-requires : tie.Need-as-written-requires
-as-written-requires c κs = search needs
-
-same-length : tie.Need-same-length
-same-length c = search needs
-
 returns : tie.Need-returns
 returns c =
     let u = c .before .before .before in
@@ -21,4 +12,4 @@ returns c =
     (c .as-written .ensures ∙ ap writtenFields (told .0), rw (← told .0) (told .1))
 
 pub ra-union-spec : {M : Type 1} → statement M
-ra-union-spec = tie.close (tie.spec union-requires as-written-requires same-length returns)
+ra-union-spec = tie.close (tie.spec (λ c κs. search needs) (λ c κs. search needs) (λ c. search needs) returns)

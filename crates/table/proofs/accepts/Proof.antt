@@ -4,9 +4,9 @@ use mathlib.Core.Path.{_≡_, _∙_, ap, refl, subst, sym}
 use Prim.Native.Nat.{ℕ}
 use native.Mathlib.Omega.{arith}
 use lib.ListN.{length}
-use Rattle.meeting.specs.declared.Explored.{Explored}
+use Rattle.table_configurations.specs.declared.Explored.{Explored}
 use Rattle.format.specs.Decoding.{decoded}
-use Rattle.file_parts.specs.Parts.{numberOf}
+use Rattle.file_fields.specs.Parts.{numberOf}
 use Rattle.table.specs.Membership.{judged}
 use Rattle.table.specs.Words.{BuiltAs}
 use Rattle.table.specs.declared.Membership.the-variants.{Refused}

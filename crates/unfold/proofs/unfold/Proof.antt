@@ -4,15 +4,15 @@ use Prim.Native.Nat.{ℕ}
 use native.Mathlib.Omega.{arith}
 use borrow.Author.Needs.{needs}
 use lib.ListN.{length}
-use Rattle.meeting.specs.declared.Explored.{Explored}
-use Rattle.explore.specs.Explores.{Explores}
-use Rattle.file_parts.specs.declared.Reading.the-variants.{Valid}
+use Rattle.table_configurations.specs.declared.Explored.{Explored}
+use Rattle.table_explore.specs.Explores.{Explores}
+use Rattle.file_fields.specs.declared.Reading.the-variants.{Valid}
 use Rattle.format.specs.Decoding.{automatonOf}
-use Rattle.file_parts.specs.Parts.{numberOf}
+use Rattle.file_fields.specs.Parts.{numberOf}
 use Rattle.format.specs.Reading.{readingOf}
-use Rattle.file_laws.proofs.ValidLaws.{valid-arcs}
-use Rattle.table.proofs.Accepting.{valid-walkable}
-use Rattle.writing.specs.declared.Written.the-variants.{Refused}
+use Rattle.file_laws.proofs.Laws.{valid-arcs}
+use Rattle.table.proofs.Laws.{valid-walkable}
+use Rattle.file_writing.specs.declared.Written.the-variants.{Refused}
 use Rattle.unfold.proofs.Answering.{answer-beyond, answer-fault, answer-result, answer-short}
 use Rattle.unfold.proofs.Explored.{known, registers-are}
 use Rattle.unfold.proofs.unfold.Statement.{statement}

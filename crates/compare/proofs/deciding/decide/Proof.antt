@@ -6,10 +6,10 @@ use native.Mathlib.Omega.{arith}
 use lib.ListN.{length}
 use Rattle.automata.specs.Pairs.{samePair}
 use Rattle.automata.specs.Search.{entries}
-use Rattle.pairs.specs.Entries.{Side, along, begin, sideOf}
-use Rattle.pairs.specs.declared.Grown.{Grown}
-use Rattle.pairs.specs.declared.Grown.the-variants.{TooMany, Total}
-use Rattle.search.specs.Searching.{Both, Grows, Outcome, Table}
+use Rattle.compare_pairs.specs.Entries.{Side, along, begin, sideOf}
+use Rattle.compare_pairs.specs.declared.Grown.{Grown}
+use Rattle.compare_pairs.specs.declared.Grown.the-variants.{TooMany, Total}
+use Rattle.compare_search.specs.Searching.{Both, Grows, Outcome, Table}
 use Rattle.compare.proofs.Found.{answer-different, answer-many, answer-same, outcome}
 use Rattle.compare.proofs.deciding.decide.Statement.{statement}
 use Rattle.compare.proofs.deciding.decide.Tie as tie

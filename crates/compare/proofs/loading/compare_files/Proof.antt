@@ -2,13 +2,12 @@
 use borrow.Author.Needs.{needs}
 use mathlib.Core.Path.{_∙_, _≡_, sym}
 use native.Mathlib.Omega.{arith}
-use Rattle.explore.specs.Explores.{exploredOf}
-use Rattle.meeting.specs.declared.Explored.the-variants.{Tables}
+use Rattle.table_explore.specs.Explores.{exploredOf}
+use Rattle.table_configurations.specs.declared.Explored.the-variants.{Tables}
 use Rattle.format.specs.Decoding.{automatonOf}
-use Rattle.pairs.specs.Map.{firstBlock}
+use Rattle.compare_pairs.specs.Map.{firstBlock}
 use Rattle.table.specs.Words.{Ready}
-use Rattle.table.proofs.Accepting.{valid-few, valid-walkable}
-use Rattle.table.proofs.Judging.{ready-flags}
+use Rattle.table.proofs.Laws.{ready-flags, valid-few, valid-walkable}
 use Rattle.compare.specs.Answers.{secondTests}
 use Rattle.compare.proofs.Checking.{arcs-many, configurations-many, within}
 use Rattle.compare.proofs.LoadedLaws.{built-answer, built-file, loaded, loaded-pruned}

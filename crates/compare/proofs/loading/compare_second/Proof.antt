@@ -5,22 +5,21 @@ use mathlib.Core.Logic.{inl}
 use Prim.Native.Nat.{_+_, _-_, _≤_}
 use native.Mathlib.Omega.{arith}
 use lib.ListN.{drop, length, take}
-use Rattle.explore.specs.Explores.{exploredOf}
-use Rattle.meeting.specs.declared.Explored.the-variants.{Tables}
+use Rattle.table_explore.specs.Explores.{exploredOf}
+use Rattle.table_configurations.specs.declared.Explored.the-variants.{Tables}
 use Rattle.format.specs.Decoding.{automatonOf}
-use Rattle.file_parts.proofs.Steps.{letters-length}
-use Rattle.file_laws.proofs.ValidLaws.{valid-letters, valid-wellFormed}
-use Rattle.pairs.specs.Map.{firstBlock, secondBlock}
+use Rattle.file_fields.proofs.Laws.{letters-length}
+use Rattle.file_laws.proofs.Laws.{valid-letters, valid-wellFormed}
+use Rattle.compare_pairs.specs.Map.{firstBlock, secondBlock}
 use Rattle.table.specs.Words.{Ready}
-use Rattle.table.proofs.Accepting.{valid-few, valid-walkable}
-use Rattle.stepping.proofs.BlockFrame.{block-but}
-use Rattle.table.proofs.Judging.{ready-flags}
+use Rattle.table.proofs.Laws.{ready-flags, valid-few, valid-walkable}
+use Rattle.table_sets.proofs.Laws.{block-but}
 use Rattle.compare.specs.Answers.{Comparable, Loaded}
 use Rattle.compare.proofs.Checking.{arcs-many, configurations-many, within}
 use Rattle.compare.proofs.LoadedLaws.{built-answer, built-file, loaded, loaded-kept, loaded-pruned}
 use Rattle.compare.proofs.loading.compare_second.Statement.{statement}
 use Rattle.compare.proofs.loading.compare_second.Tie as tie
-use Rattle.writing.proofs.FileParts.{lent-letters, valid-alphabet}
+use Rattle.file_writing.proofs.Laws.{lent-letters, valid-alphabet}
 
 -- building's call
 abbrev start : tie.After-build → tie.Start

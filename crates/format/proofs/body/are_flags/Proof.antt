@@ -7,8 +7,8 @@ use native.Mathlib.Numerals.{add-one}
 use borrow.Author.Tests.{le-leb, lt-leb}
 use lib.Dec.{leb}
 use lib.ListN.{length, getD, drop}
-use Rattle.file_parts.specs.Parts.{flags}
-use Rattle.file_parts.proofs.Steps.{flags-at, flags-end}
+use Rattle.file_fields.specs.Parts.{flags}
+use Rattle.file_fields.proofs.Laws.{flags-at, flags-end}
 use Rattle.format.proofs.body.are_flags.Statement.{statement}
 use Rattle.format.proofs.body.are_flags.Tie as tie
 
@@ -26,17 +26,8 @@ turn c = c .before .loop .inv .1 ∙ flags-at (c .before .before .args .s .now) 
 loop-holds : tie.Need-loop-holds Inv-loop μ-loop
 loop-holds c = (omega arith, refl)
 
-shared-slice-read-if1 : tie.Need-shared-slice-read-if1 Inv-loop μ-loop
-shared-slice-read-if1 c = omega arith
-
 returns : tie.Need-returns Inv-loop μ-loop
 returns c = sym (turn (c .before .before) ∙ rw (lt-leb _ _ (c .if1 .taken)))
-
-add-i : tie.Need-add-i Inv-loop μ-loop
-add-i c = omega arith
-
-loop-less : tie.Need-loop-less Inv-loop μ-loop
-loop-less c = omega arith
 
 loop-again : tie.Need-loop-again Inv-loop μ-loop
 loop-again c = (omega arith, turn (c .before .before) ∙ rw (le-leb _ _ (c .if1 .left), add-one))
@@ -51,9 +42,9 @@ are-flags-spec =
     Inv-loop
     μ-loop
     loop-holds
-    shared-slice-read-if1
+    (λ c. omega arith)
     returns
-    add-i
-    loop-less
+    (λ c. omega arith)
+    (λ c. omega arith)
     loop-again
     returns-2)

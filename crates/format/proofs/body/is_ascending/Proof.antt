@@ -6,8 +6,8 @@ use Prim.Native.Nat.{suc, _+_, _-_, _≤_}
 use borrow.Author.Tests.{lt-ltb, le-ltb}
 use lib.Dec.{ltb}
 use lib.ListN.{length, getD, drop}
-use Rattle.file_parts.specs.Parts.{ascending}
-use Rattle.file_parts.proofs.Steps.{ascending-at, ascending-end}
+use Rattle.file_fields.specs.Parts.{ascending}
+use Rattle.file_fields.proofs.Laws.{ascending-at, ascending-end}
 use Rattle.format.proofs.body.is_ascending.Statement.{statement}
 use Rattle.format.proofs.body.is_ascending.Tie as tie
 
@@ -28,23 +28,8 @@ turn c =
 loop-holds : tie.Need-loop-holds Inv-loop μ-loop
 loop-holds c = (omega arith, refl)
 
-shared-slice-read-if1 : tie.Need-shared-slice-read-if1 Inv-loop μ-loop
-shared-slice-read-if1 c = omega arith
-
-sub-if1 : tie.Need-sub-if1 Inv-loop μ-loop
-sub-if1 c = omega arith
-
-shared-slice-read-if1-2 : tie.Need-shared-slice-read-if1-2 Inv-loop μ-loop
-shared-slice-read-if1-2 c = omega arith
-
 returns : tie.Need-returns Inv-loop μ-loop
 returns c = sym (turn (c .before .before .before) ∙ rw (le-ltb _ _ (c .if1 .taken)))
-
-add-i : tie.Need-add-i Inv-loop μ-loop
-add-i c = omega arith
-
-loop-less : tie.Need-loop-less Inv-loop μ-loop
-loop-less c = omega arith
 
 loop-again : tie.Need-loop-again Inv-loop μ-loop
 loop-again c = let e : c .before .before .before .before .loop .i + 1 - 1 ≡ c .before .before .before .before .loop .i = omega arith in
@@ -60,11 +45,11 @@ is-ascending-spec =
     Inv-loop
     μ-loop
     loop-holds
-    shared-slice-read-if1
-    sub-if1
-    shared-slice-read-if1-2
+    (λ c. omega arith)
+    (λ c. omega arith)
+    (λ c. omega arith)
     returns
-    add-i
-    loop-less
+    (λ c. omega arith)
+    (λ c. omega arith)
     loop-again
     returns-2)

@@ -4,8 +4,8 @@ use Prim.Native.Nat.{_+_, _-_}
 use native.Mathlib.Omega.{arith}
 use borrow.Author.Tests.{le-leb, lt-leb}
 use lib.ListN.{take, drop}
-use Rattle.file_parts.specs.Parts.{letterBytes, flagBytes, ascending, flags, firstFault}
-use Rattle.file_parts.proofs.Tests.{passed, failed}
+use Rattle.file_fields.specs.Parts.{letterBytes, flagBytes, ascending, flags, firstFault}
+use Rattle.file_fields.proofs.Laws.{failed, passed}
 use borrow.Author.Needs.{needs}
 use Rattle.format.proofs.body.read_body.Statement.{statement}
 use Rattle.format.proofs.body.read_body.Tie as tie
@@ -23,31 +23,13 @@ flagged c =
     let e : 12 + a .c .letters + a .c .states - (12 + a .c .letters) ≡ a .c .states = omega arith in
     c .are-flags .ensures ∙ ap (λ n. flags (take n (drop (12 + a .c .letters) (a .file .now)))) e
 
-add-flags : tie.Need-add-flags
-add-flags c = search needs
-
 returns : tie.Need-returns
 unfolding firstFault
 returns c = rw (lt-leb _ _ (c .if1 .taken))
 
-sub-is-ascending : tie.Need-sub-is-ascending
-sub-is-ascending c = search needs
-
-part-is-ascending-start : tie.Need-part-is-ascending-start
-part-is-ascending-start c = search needs
-
-part-is-ascending-end : tie.Need-part-is-ascending-end
-part-is-ascending-end c = search needs
-
-is-ascending-requires : tie.Need-is-ascending-requires
-is-ascending-requires c κs = search needs
-
 returns-2 : tie.Need-returns-2
 unfolding firstFault
 returns-2 c = rw (le-leb _ _ (c .before .before .before .if1 .left), failed (ascended (c .before)) (c .if2 .taken))
-
-add-arcs : tie.Need-add-arcs
-add-arcs c = search needs
 
 returns-3 : tie.Need-returns-3
 unfolding firstFault
@@ -55,27 +37,12 @@ returns-3 c =
     let c2 = c .before .before in
     rw (le-leb _ _ (c2 .before .before .before .if1 .left), passed (ascended (c2 .before)) (c2 .if2 .left), lt-leb _ _ (c .if3 .taken))
 
-sub-are-flags : tie.Need-sub-are-flags
-sub-are-flags c = search needs
-
-part-are-flags-start : tie.Need-part-are-flags-start
-part-are-flags-start c = search needs
-
-part-are-flags-end : tie.Need-part-are-flags-end
-part-are-flags-end c = search needs
-
-are-flags-requires : tie.Need-are-flags-requires
-are-flags-requires c κs = search needs
-
 returns-4 : tie.Need-returns-4
 unfolding firstFault
 returns-4 c =
     let c3 = c .before .before .before in
     let c2 = c3 .before .before in
     rw (le-leb _ _ (c2 .before .before .before .if1 .left), passed (ascended (c2 .before)) (c2 .if2 .left), le-leb _ _ (c3 .if3 .left), failed (flagged (c .before)) (c .if4 .taken))
-
-read-arcs-requires : tie.Need-read-arcs-requires
-read-arcs-requires c κs = search needs
 
 returns-5 : tie.Need-returns-5
 unfolding firstFault
@@ -90,19 +57,19 @@ pub read-body-spec : {M : Type 1} → statement M
 read-body-spec =
     tie.close
     (tie.spec
-    add-flags
+    (λ c. search needs)
     returns
-    sub-is-ascending
-    part-is-ascending-start
-    part-is-ascending-end
-    is-ascending-requires
+    (λ c. search needs)
+    (λ c. search needs)
+    (λ c. search needs)
+    (λ c κs. search needs)
     returns-2
-    add-arcs
+    (λ c. search needs)
     returns-3
-    sub-are-flags
-    part-are-flags-start
-    part-are-flags-end
-    are-flags-requires
+    (λ c. search needs)
+    (λ c. search needs)
+    (λ c. search needs)
+    (λ c κs. search needs)
     returns-4
-    read-arcs-requires
+    (λ c κs. search needs)
     returns-5)

@@ -3,15 +3,6 @@ use borrow.Author.Needs.{needs}
 use Rattle.registered_automata.proofs.results.as_membership.Statement.{statement}
 use Rattle.registered_automata.proofs.results.as_membership.Tie as tie
 
-enum-known-r : tie.Need-enum-known-r
-enum-known-r c = search needs
-
-enum-known-r-2 : tie.Need-enum-known-r-2
-enum-known-r-2 c = search needs
-
-enum-known-r-3 : tie.Need-enum-known-r-3
-enum-known-r-3 c = search needs
-
 returns : tie.Need-returns
 returns c = rw (c .before .r .given .1)
 
@@ -23,4 +14,4 @@ returns-3 c = rw (c .before .r3 .given .1)
 
 pub as-membership-spec : {M : Type 1} → statement M
 as-membership-spec =
-    tie.close (tie.spec enum-known-r enum-known-r-2 enum-known-r-3 returns returns-2 returns-3)
+    tie.close (tie.spec (λ c. search needs) (λ c. search needs) (λ c. search needs) returns returns-2 returns-3)

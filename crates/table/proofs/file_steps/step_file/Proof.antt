@@ -2,11 +2,10 @@
 -- proofs/Onward.antt). The measure is how far c is from 256.
 use Prim.Native.Nat.{_-_}
 use native.Mathlib.Omega.{arith}
-use Rattle.passing.proofs.Linking.{indexed-kept, linked-kept}
+use Rattle.table_operations.proofs.Laws.{indexed-kept, linked-kept}
 use Rattle.table.specs.FileSteps.{FromFile}
-use Rattle.stepping.proofs.BlockFrame.{room-kept}
+use Rattle.table_sets.proofs.Laws.{Stepping, room-kept, stepped, stepping-more, stepping-start}
 use Rattle.table.proofs.FileVisits.{findable-kept, from-kept, map-kept}
-use Rattle.stepping.proofs.Onward.{Stepping, stepped, stepping-more, stepping-start}
 use Rattle.table.proofs.file_steps.step_file.Statement.{statement}
 use Rattle.table.proofs.file_steps.step_file.Tie as tie
 

@@ -5,9 +5,9 @@ use mathlib.Core.Path.{_≡_, _∙_, ap, subst, sym}
 use Prim.Native.Nat.{ℕ, _*_, _%_, _+_, _^_, _<_}
 use native.Mathlib.Omega.{arith}
 use lib.Pow.{shl-exact}
-use Rattle.passing.specs.Packed.{Fitting}
-use Rattle.passing.specs.declared.Outcome.the-variants.{Failed, Leaves}
-use Rattle.memory.proofs.Laws.{kept-same, kept-wider}
+use Rattle.table_operations.specs.Packed.{Fitting}
+use Rattle.table_operations.specs.declared.Outcome.the-variants.{Failed, Leaves}
+use Rattle.word_fields.proofs.Laws.{kept-same, kept-wider}
 use Rattle.table.proofs.FileVisits.{leads-none, leads-one, not-taken, taken}
 use Rattle.table.proofs.file_steps.take_arc.Statement.{statement}
 use Rattle.table.proofs.file_steps.take_arc.Tie as tie

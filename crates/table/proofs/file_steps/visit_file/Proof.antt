@@ -2,7 +2,7 @@
 -- whole (Following).
 use Prim.Native.Nat.{_+_, _%_}
 use native.Mathlib.Omega.{arith}
-use Rattle.stepping.proofs.BlockFrame.{room-kept}
+use Rattle.table_sets.proofs.Laws.{room-kept}
 use Rattle.table.proofs.FileVisits.{Following, arc-here, findable-kept, following-end, following-less, following-more, following-start, map-kept}
 use Rattle.table.proofs.file_steps.visit_file.Statement.{statement}
 use Rattle.table.proofs.file_steps.visit_file.Tie as tie

@@ -6,12 +6,12 @@ use mathlib.Core.Logic.{inr}
 use mathlib.Core.Bool.{cond}
 use Prim.Native.Nat.{_+_}
 use native.Mathlib.Omega.{arith}
-use Rattle.passing.specs.Map.{configs}
+use Rattle.table_operations.specs.Map.{configs}
 use Rattle.format.specs.Decoding.{decoded}
-use Rattle.letter_chains.specs.Lettered.{letteredEnd}
-use Rattle.memory.specs.Frame.{Kept}
-use Rattle.memory.proofs.Laws.{kept-then, kept-wider}
-use Rattle.sets.specs.Rows.{row}
+use Rattle.table_letters.specs.Lettered.{letteredEnd}
+use Rattle.word_fields.specs.Frame.{Kept}
+use Rattle.word_fields.proofs.Laws.{kept-then, kept-wider}
+use Rattle.word_sets.specs.Rows.{row}
 use Rattle.table.specs.Membership.{judged}
 use Rattle.table.specs.Words.{letterSets}
 use Rattle.table.specs.declared.Membership.the-variants.{Accepted, Rejected}

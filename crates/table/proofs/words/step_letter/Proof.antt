@@ -2,7 +2,7 @@
 -- the file leaves.
 use borrow.Author.Needs.{needs}
 use native.Mathlib.Omega.{arith}
-use Rattle.memory.proofs.Laws.{kept-same}
+use Rattle.word_fields.proofs.Laws.{kept-same}
 use Rattle.table.proofs.words.step_letter.Statement.{statement}
 use Rattle.table.proofs.words.step_letter.Tie as tie
 

@@ -6,11 +6,11 @@ use Prim.Native.Nat.{_-_}
 use native.Mathlib.Omega.{arith}
 use lib.ListN.{getD, length}
 use Rattle.format.specs.Decoding.{decoded}
-use Rattle.file_parts.specs.Letters.{letterNumber}
-use Rattle.file_parts.specs.Parts.{letterBytes}
-use Rattle.file_parts.specs.declared.letters.Letter.the-variants.{At}
-use Rattle.file_parts.proofs.Steps.{letters-length}
-use Rattle.letter_chains.proofs.LetteredFrame.{lettered-kept}
+use Rattle.file_fields.specs.Letters.{letterNumber}
+use Rattle.file_fields.specs.Parts.{letterBytes}
+use Rattle.file_fields.specs.declared.letters.Letter.the-variants.{At}
+use Rattle.file_fields.proofs.Laws.{letters-length}
+use Rattle.table_letters.proofs.Laws.{lettered-kept}
 use Rattle.table.proofs.FileCovers.{built-outgoing}
 use Rattle.table.proofs.FileVisits.{map-kept, steppable-kept}
 use Rattle.table.proofs.WordSteps.{Walking, letter-lt, walking-end, walking-foreign, walking-more, walking-start}

@@ -4,9 +4,9 @@ use mathlib.Core.List.{_++_}
 use Prim.Native.Nat.{_+_, _-_}
 use native.Mathlib.Omega.{arith}
 use Rattle.format.specs.Encoding.{arcsBytes}
-use Rattle.stepping.specs.Stepping.{startAt}
-use Rattle.stepping.proofs.BlockFrame.{end-few}
-use Rattle.writing.proofs.Placed.{Left, left-all, left-fits, left-less, left-none}
+use Rattle.table_sets.specs.Stepping.{startAt}
+use Rattle.table_sets.proofs.Laws.{end-few}
+use Rattle.file_writing.proofs.Laws.{Left, left-all, left-fits, left-less, left-none}
 use Rattle.unfold.specs.Listed.{arcsOfMany, arcsOfOne}
 use Rattle.unfold.proofs.ListedBytes.{many-next, many-none}
 use Rattle.unfold.proofs.arcs.write_arcs.Statement.{statement}

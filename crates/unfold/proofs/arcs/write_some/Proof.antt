@@ -2,11 +2,11 @@
 use mathlib.Core.List.{_++_}
 use Prim.Native.Nat.{_+_, _-_}
 use native.Mathlib.Omega.{arith}
-use Rattle.passing.specs.Map.{arcsAt}
+use Rattle.table_operations.specs.Map.{arcsAt}
 use Rattle.format.specs.Encoding.{arcBytes, arcsBytes}
-use Rattle.memory.specs.Fields.{field}
-use Rattle.arc_writing.proofs.ArcBytes.{arc-length}
-use Rattle.writing.proofs.Placed.{Left, left-all, left-fits, left-less, left-none}
+use Rattle.word_fields.specs.Fields.{field}
+use Rattle.file_arc_writing.proofs.Laws.{arc-length}
+use Rattle.file_writing.proofs.Laws.{Left, left-all, left-fits, left-less, left-none}
 use Rattle.unfold.specs.Listed.{arcListed, arcsListed}
 use Rattle.unfold.proofs.ListedBytes.{listed-next, listed-none}
 use Rattle.unfold.proofs.arcs.write_some.Statement.{statement}

@@ -3,9 +3,8 @@ use Prim.Native.Nat.{_*_, _+_, _≤_}
 use native.Mathlib.Omega.{arith}
 use borrow.Author.Needs.{needs}
 use lib.ListN.{length}
-use Rattle.file_laws.proofs.ValidLaws.{valid-ranges}
-use Rattle.writing.proofs.FileParts.{front-ends}
-use Rattle.writing.proofs.Placed.{appended-length, written-then}
+use Rattle.file_laws.proofs.Laws.{valid-ranges}
+use Rattle.file_writing.proofs.Laws.{appended-length, front-ends, written-then}
 use Rattle.unfold.proofs.Explored.{arcs-length, flags-size, flags-there, known, result-length, result-parts, some-known, starts-are}
 use Rattle.unfold.proofs.result.write_file.Statement.{statement}
 use Rattle.unfold.proofs.result.write_file.Tie as tie

@@ -4,9 +4,9 @@ use native.Mathlib.Omega.{arith}
 use borrow.Author.Needs.{needs}
 use lib.ListN.{length}
 use Rattle.format.specs.Decoding.{automatonOf}
-use Rattle.file_laws.proofs.ValidLaws.{valid-ranges}
-use Rattle.writing.specs.declared.Written.the-variants.{Bytes}
-use Rattle.writing.proofs.FileParts.{file-written}
+use Rattle.file_laws.proofs.Laws.{valid-ranges}
+use Rattle.file_writing.specs.declared.Written.the-variants.{Bytes}
+use Rattle.file_writing.proofs.Laws.{file-written}
 use Rattle.unfold.proofs.Answering.{result-bytes, result-many, result-short}
 use Rattle.unfold.proofs.Explored.{known, result-length}
 use Rattle.unfold.proofs.result.write_result.Statement.{statement}

@@ -1,0 +1,133 @@
+-- Theorems: the theorems of this crate in one place, each in a statement that can be read by itself. Their proofs stand in the modules named.
+-- Read specs/ first: Automaton, Words, then the rest in the order of specs/Lib.antt. L and P are limits, whatever their values.
+use mathlib.Core.Path.{_≡_}
+use mathlib.Core.Logic.{_↔_, _⊎_}
+use Prim.Native.Nat.{_<_, _≤_, ℕ}
+use lib.Dec.{T}
+use lib.ListN.{getElem?, length}
+use mathlib.Core.Bool.{Bool}
+use mathlib.Core.List.{List, List·Memᴰ}
+use mathlib.Core.Option.{Option, some}
+use native.Mathlib.Omega.{arith}
+use Rattle.automata.specs.Automaton.{Automaton, Configuration, DoesAll, Op, Produces, Reachable, Run, WellFormed, letters, start}
+use Rattle.automata.specs.Counting.{Apart, Counts, MoreThan}
+use Rattle.automata.specs.Examples.{Holds, Row, rows}
+use Rattle.automata.specs.Exploration.{Distinct, Reach, known}
+use Rattle.automata.specs.Joins.{Split, Star, closure, concatenation, intersection, union}
+use Rattle.automata.specs.Live.{count, in?}
+use Rattle.automata.specs.Pairs.{Right, SomePair, pairOf, pairs, verdict}
+use Rattle.automata.specs.Performing.{perform, successors}
+use Rattle.automata.specs.Search.{Entry, Over, entries, leads}
+use Rattle.automata.specs.Unfolding.{acceptedBytes, configurations, liveCount, liveSet, unfolded}
+use Rattle.automata.specs.Words.{Language, LiveAfter}
+use Rattle.automata.proofs.CountingLaws.{counts-unique, not-more}
+use Rattle.automata.proofs.ExampleLaws.{rows-hold}
+use Rattle.automata.proofs.ExplorationLaws.{known-distinct, known-sound, walk-counts, walk-more}
+use Rattle.automata.proofs.LanguageLaws.{closure-language, concatenation-language, intersection-language, unfolded-language, union-language}
+use Rattle.automata.proofs.ListLaws.{at-mem}
+use Rattle.automata.proofs.MembershipLaws.{acceptedBytes-iff, live-counts, liveCount-counts}
+use Rattle.automata.proofs.PairLaws.{pairs-more}
+use Rattle.automata.proofs.PairSets.{live-configuration, same-pair}
+use Rattle.automata.proofs.PerformingLaws.{perform-iff, successors-iff}
+use Rattle.automata.proofs.ReachLaws.{configurations-count, configurations-more}
+use Rattle.automata.proofs.SearchLaws.{entry-true, word-met}
+use Rattle.automata.proofs.VerdictLaws.{verdict-right}
+
+-- ---- one step (PerformingLaws)
+-- Performing a list of operations is document 003's relation.
+pub performing : (ops : List Op) (u v : List ℕ) → (perform ops u ≡ some v) ↔ DoesAll ops u v
+performing = perform-iff
+
+-- The successors of a configuration are what it produces.
+pub producing : (x : Automaton) (c : Configuration) (α : Option ℕ) (d : Configuration) → List·Memᴰ (record { letter = α; to = d }) (successors x c) ↔ Produces x c α d
+producing = successors-iff
+
+-- ---- exploration, of anything (ExplorationLaws): `same` is equality, and nothing stands twice in `start`
+module _ {X : Type 0} (same : X → X → Bool) (eq : (x y : X) → T (same x y) ↔ (x ≡ y)) (next : X → List X) (start : List X) (d : Distinct same start) where
+  -- No element is numbered twice, and each that is numbered can be reached.
+  pub exploring : (n : ℕ) → Distinct same (known same next start n) × ((x : X) → List·Memᴰ x (known same next start n) → Reach next start x)
+  exploring n = (known-distinct same next start d n, λ x. known-sound same next start n)
+
+  -- When the walk has ended within L, exactly what can be reached is numbered; else there is more than that to reach.
+  pub exploring-counts : (L : ℕ) → length (known same next start L) ≤ L → Counts (Reach next start) (length (known same next start L))
+  exploring-counts = walk-counts same eq next start d
+
+  pub exploring-more : (L : ℕ) → L < length (known same next start L) → MoreThan (Reach next start) L
+  exploring-more = walk-more same eq next start d
+
+-- Exploring by letters, in letter order, with the words by which states are met: each word leads to its state, and a word that
+-- leads to a state is at least as long as the one by which that state was met (SearchLaws).
+pub searching : {Q : Type 0} (same : Q → Q → Bool) (δ : Q → ℕ → Q) (a : ℕ) (q : Q) → ((p r : Q) → T (same p r) ↔ (p ≡ r)) → (n : ℕ) → length (entries same δ a q n) ≤ n
+    → ((e : Entry Q) → List·Memᴰ e (entries same δ a q n) → leads δ q (e .word) ≡ e .state)
+    × ((w : List ℕ) → Over a w → (e : Entry Q) × List·Memᴰ e (entries same δ a q n) × (e .state ≡ leads δ q w) × (length (e .word) ≤ length w))
+searching same δ a q eq n fits = (
+  λ e m. entry-true same δ a q n e m .0,
+  λ w o. let s = word-met same δ a q eq n fits w o in (s .entry, at-mem (entries same δ a q n) (s .place) (s .stands), s .leads-there, s .short),
+)
+
+-- ---- counting (CountingLaws)
+-- A number of things is one number, and exactly n things are not more than n.
+pub counting-unique : {A : Type 0} {P : A → Type 0} {m n : ℕ} → Counts P m → Counts P n → m ≡ n
+counting-unique = counts-unique
+
+pub counting-exclusive : {A : Type 0} {P : A → Type 0} {n : ℕ} → Counts P n → ¬ MoreThan P n
+counting-exclusive c = not-more c (omega arith)
+
+-- ---- an automaton whose walk ends within L
+-- Its configurations are those that runs reach; beyond L there are more (ReachLaws: refusal 21).
+pub reaching : (x : Automaton) (L : ℕ) → length (configurations x L) ≤ L → Counts (Reachable x) (length (configurations x L))
+reaching = configurations-count
+
+pub reaching-more : (x : Automaton) (L : ℕ) → (L < length (configurations x L)) ↔ MoreThan (Reachable x) L
+reaching-more = configurations-more
+
+module _ (x : Automaton) (L : ℕ) (fits : length (configurations x L) ≤ L) where
+  -- Configuration number j is in the live set of w just if a run that spells w ends there (PairSets).
+  pub living : (w : List ℕ) (j : ℕ) (c : Configuration) → getElem? (configurations x L) j ≡ some c → T (in? (liveSet x L w) j) ↔ Run (Produces x) (start x) w c
+  unfolding liveSet
+  living = live-configuration x L fits
+
+  -- The number live is that of the configurations that runs spelling the word end in (MembershipLaws).
+  pub living-counts : (w : List ℕ) → Counts (λ (c : Configuration). Run (Produces x) (start x) w c) (count (liveSet x L w))
+  living-counts = live-counts x L fits
+
+  -- A word of bytes is computed to be accepted just if it is in the language; the number live is that of its live set.
+  pub membership : Apart (x .alphabet) → (s : List ℕ) → (T (acceptedBytes x L s) ↔ Language x s) × Counts (LiveAfter x s) (liveCount x L s)
+  membership apart s = (acceptedBytes-iff x apart L fits s, liveCount-counts x apart L fits s)
+
+  -- The unfolded automaton has exactly the same words (UnfoldedLaws, LanguageLaws).
+  pub unfolding-language : (s : List ℕ) → Language (unfolded x L) s ↔ Language x s
+  unfolding-language = unfolded-language x L fits
+
+-- ---- the joins, of automata with one alphabet, for words of every length (LanguageLaws)
+module _ (a b : Automaton) (va : WellFormed a) (vb : WellFormed b) (shared : b .alphabet ≡ a .alphabet) where
+  pub uniting : (s : List ℕ) → Language (union a b) s ↔ (Language a s ⊎ Language b s)
+  uniting = union-language a b va vb shared
+
+  pub concatenating : (s : List ℕ) → Language (concatenation a b) s ↔ Split (Language a) (Language b) s
+  concatenating = concatenation-language a b va vb shared
+
+  pub intersecting : (s : List ℕ) → Language (intersection a b) s ↔ (Language a s × Language b s)
+  intersecting = intersection-language a b va vb shared
+
+pub closing : (a : Automaton) → WellFormed a → (s : List ℕ) → Language (closure a) s ↔ Star (Language a) s
+closing = closure-language
+
+-- ---- comparing (VerdictLaws, PairLaws)
+-- Within the limits the verdict is right: see `Right` in specs/Pairs.antt. Beyond P there are more pairs (refusal 23).
+pub comparing : (x y : Automaton) (L P : ℕ) → WellFormed x → WellFormed y → letters y ≡ letters x → length (configurations x L) ≤ L → length (configurations y L) ≤ L
+    → length (pairs x y L P) ≤ P → Right x y L (verdict x y L P)
+comparing = verdict-right
+
+pub comparing-more : (x y : Automaton) (L P : ℕ) → (P < length (pairs x y L P)) ↔ MoreThan (SomePair x y L) P
+comparing-more = pairs-more
+
+-- Two words have one pair just if the same configurations are live after both, in each automaton (PairSets).
+pub pairing : (x y : Automaton) (L : ℕ) → length (configurations x L) ≤ L → length (configurations y L) ≤ L → (w v : List ℕ)
+    → (pairOf x y L w ≡ pairOf x y L v)
+    ↔ (((c : Configuration) → Run (Produces x) (start x) w c ↔ Run (Produces x) (start x) v c) × ((c : Configuration) → Run (Produces y) (start y) w c ↔ Run (Produces y) (start y) v c))
+pairing = same-pair
+
+-- ---- document 01's table (ExampleLaws)
+pub table : (r : Row) → List·Memᴰ r rows → Holds 256 r
+table = rows-hold

@@ -1,2 +1,0 @@
-pub mod ClosureBytes
-pub mod ClosureFits

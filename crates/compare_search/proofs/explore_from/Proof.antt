@@ -1,0 +1,83 @@
+-- `compare_search::explore_from` meets its contract. The loop's invariant: the pairs below i are expanded (Walked of proofs/Walking.antt).
+use borrow.Author.Needs.{needs}
+use native.Mathlib.Omega.{arith}
+use mathlib.Core.Path.{_∙_}
+use Prim.Native.Nat.{_-_}
+use Rattle.compare_search.proofs.Frames.{ready-kept}
+use Rattle.word_fields.proofs.Laws.{kept-then}
+use Rattle.compare_search.proofs.Walking.{Walked, walk-end, walked-more, walked-over, walked-start}
+use Rattle.compare_search.proofs.explore_from.Statement.{statement}
+use Rattle.compare_search.proofs.explore_from.Tie as tie
+
+abbrev Inv-loop : tie.InvT-loop
+Inv-loop w₀ a count1 plain1 count2 plain2 n₀ i₀ w n i = Walked a count1 plain1 count2 plain2 w₀ w n i
+
+abbrev μ-loop : tie.MeasureT-loop
+μ-loop w₀ a count1 plain1 count2 plain2 n₀ i₀ w n i = 512 - i
+
+loop-holds : tie.Need-loop-holds Inv-loop μ-loop
+loop-holds c = walked-start _ _ _ _ _ _ (c .before .pre .1)
+
+expand-requires : tie.Need-expand-requires Inv-loop μ-loop
+expand-requires c κs =
+    let i = c .before in
+    let o = i .before in
+    let k = o .loop .inv in
+    (ready-kept (k .kept) (o .before .before .pre .0), (i .loop-test .taken, k .table))
+
+same-length : tie.Need-same-length Inv-loop μ-loop
+same-length c =
+    let x = c .before .before .before in
+    let o = x .before .before .before .before in
+    x .w .given ∙ o .loop .inv .kept .long
+
+returns : tie.Need-returns Inv-loop μ-loop
+returns c =
+    let g = c .before .before .before .before in
+    let i = g .before .before in
+    let o = i .before in
+    let x = g .expand in
+    let k = o .loop .inv in
+    (kept-then (k .kept) (x .ensures .0), (tt, walked-over (x .last .0) (x .result) (o .before .before .pre .0) (i .loop-test .taken) k (x .ensures .0) (x .ensures .1 .0) (x .ensures .1 .1) (c .enum-told .given .1)))
+
+add-i : tie.Need-add-i Inv-loop μ-loop
+add-i c = let o = c .before .before .before .before .before .before .before .before in omega (arith, o .loop .inv .table .few)
+
+loop-less : tie.Need-loop-less Inv-loop μ-loop
+loop-less c = let o = c .before .before .before .before .before .before .before .before in omega (arith, o .loop .inv .table .few)
+
+loop-again : tie.Need-loop-again Inv-loop μ-loop
+loop-again c =
+    let v = c .before .more .given in
+    let g = c .before .before .before .before .before in
+    let i = g .before .before in
+    let o = i .before in
+    let x = g .expand in
+    walked-more (x .last .0) (x .result) (o .before .before .pre .0) (i .loop-test .taken) (o .loop .inv) (x .ensures .0) (x .ensures .1 .0) (x .ensures .1 .1) (v .0 .0) (v .1)
+
+same-length-2 : tie.Need-same-length-2 Inv-loop μ-loop
+same-length-2 c = c .before .loop .inv .kept .long
+
+returns-2 : tie.Need-returns-2 Inv-loop μ-loop
+returns-2 c =
+    let l = c .before .loop in
+    let k = l .inv in
+    (k .kept, ((k .some-pair, k .table), λ s t q b h. walk-end _ s t q (l .i) 512 (c .loop-test .left) (omega (arith, k .few, k .table .few)) (k .walk s t q b h)))
+
+pub explore-from-spec : {M : Type 1} → statement M
+explore-from-spec =
+    tie.close
+    (tie.spec
+    Inv-loop
+    μ-loop
+    loop-holds
+    expand-requires
+    (λ c. search needs)
+    same-length
+    returns
+    (λ c. search needs)
+    add-i
+    loop-less
+    loop-again
+    same-length-2
+    returns-2)

@@ -1,0 +1,4 @@
+pub mod Differences
+pub mod Climbing
+pub mod Putting
+pub mod Laws

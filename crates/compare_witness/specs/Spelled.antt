@@ -1,0 +1,40 @@
+-- Spelled: the word of a pair, spelled by its parents; and which of two automata alone accepts the words of a pair.
+use mathlib.Core.Bool.{Bool, cond, false, not, true}
+use mathlib.Core.List.{List, [], _∷_, _++_}
+use Prim.Native.Nat.{ℕ, suc, zero, _≤_, _<_}
+use lib.Dec.{eqb}
+use lib.ListN.{length}
+use Rattle.automata.specs.Live.{meets}
+use Rattle.automata.specs.Pairs.{Pair}
+use Rattle.compare_pairs.specs.Entries.{Tree, letterOf, parentOf}
+use Rattle.compare_pairs.specs.Map.{pairHeads}
+
+-- up the parents from pair k, f of them at most: as many as k are enough
+unfoldable pub spelled : List ℕ → ℕ → ℕ → List ℕ
+spelled w zero k = []
+spelled w (suc f) k = cond (eqb k 0) [] (spelled w f (parentOf w k) ++ letterOf w k ∷ [])
+
+abbrev pub wordOf : List ℕ → ℕ → List ℕ
+wordOf w k = spelled w k k
+
+-- which of two facts holds alone: 1, 2, or 0 where both or neither hold
+unfoldable pub alone : Bool → Bool → ℕ
+alone true true = 0
+alone true false = 1
+alone false true = 2
+alone false false = 0
+
+-- which automaton alone accepts the words of a pair; F and G are the final sets
+unfoldable pub takerBy : (F G : List Bool) → Pair → ℕ
+unfolding alone meets
+takerBy F G p = alone (meets (p .left) F) (meets (p .right) G)
+
+abbrev pub differsBy : (F G : List Bool) → Pair → Bool
+differsBy F G p = not (eqb (takerBy F G p) 0)
+
+-- the walk up the parents can be taken from pair k, one of n: it stays in the words, and its letters are among a
+pub record Climb (w : List ℕ) (a n k : ℕ) : Type 0 where
+  pub long : pairHeads ≤ length w
+  pub most : n ≤ 512
+  pub low : k < n
+  pub tree : Tree a w n

@@ -1,2 +1,0 @@
-pub mod ConcatenationBytes
-pub mod ConcatenationFits

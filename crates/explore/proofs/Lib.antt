@@ -1,4 +1,0 @@
-pub mod Walked
-pub mod Going
-pub mod Walking
-pub mod Promise

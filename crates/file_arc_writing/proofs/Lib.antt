@@ -1,0 +1,2 @@
+pub mod ArcBytes
+pub mod Laws

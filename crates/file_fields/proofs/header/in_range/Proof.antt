@@ -1,0 +1,10 @@
+-- Whether each count is in its range: the test itself.
+use mathlib.Core.Path.{refl}
+use Rattle.file_fields.proofs.header.in_range.Statement.{statement}
+use Rattle.file_fields.proofs.header.in_range.Tie as tie
+
+returns : tie.Need-returns
+returns c = refl
+
+pub in-range-spec : {M : Type 1} → statement M
+in-range-spec = tie.close (tie.spec returns)

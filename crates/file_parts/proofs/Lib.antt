@@ -1,4 +1,0 @@
--- what the functions' proofs go by
-pub mod Tests
-pub mod Steps
-pub mod LetterLaws

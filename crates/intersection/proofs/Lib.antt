@@ -1,4 +1,0 @@
-pub mod FlagLaws
-pub mod ManyOps
-pub mod IntersectionBytes
-pub mod IntersectionFits

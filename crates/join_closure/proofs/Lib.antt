@@ -1,0 +1,3 @@
+pub mod ClosureBytes
+pub mod ClosureFits
+pub mod Laws

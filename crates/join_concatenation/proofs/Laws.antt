@@ -1,0 +1,3 @@
+-- Laws: the laws of this crate that crates above cite. A law that is not named here may change.
+-- a concatenation that is not beyond a limit is within the limits of a file, where the two automata are
+pub use Rattle.join_concatenation.proofs.ConcatenationFits.{concatenation-fits}

@@ -1,0 +1,3 @@
+pub mod ConcatenationBytes
+pub mod ConcatenationFits
+pub mod Laws

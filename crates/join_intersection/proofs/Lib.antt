@@ -1,0 +1,5 @@
+pub mod FlagLaws
+pub mod ManyOps
+pub mod IntersectionBytes
+pub mod IntersectionFits
+pub mod Laws

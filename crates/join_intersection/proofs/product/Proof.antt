@@ -1,0 +1,131 @@
+-- `join_intersection::product` meets its contract.
+use mathlib.Core.Path.{_≡_, _∙_, ap, ap₂, sym, refl}
+use Prim.Native.Nat.{ℕ, _+_, _*_, _≤_}
+use native.Mathlib.Omega.{arith}
+use native.Mathlib.Nat.{mul-le-mul-left}
+use borrow.Author.Needs.{needs}
+use lib.ListN.{length}
+use Rattle.automata.specs.Automaton.{Automaton}
+use Rattle.automata.specs.Joins.{intersection}
+use Rattle.file_fields.specs.declared.Counts.{Counts}
+use Rattle.format.specs.Decoding.{automatonOf}
+use Rattle.format.specs.Encoding.{sizes}
+use Rattle.file_laws.proofs.Laws.{bytes-length, valid-fits, valid-ranges, valid-sizes}
+use Rattle.join_parts.specs.Joining.{manyCounts, writtenOf}
+use Rattle.join_parts.proofs.Laws.{decided-written, valid-lengths, written-bytes}
+use Rattle.join_product_count.specs.Pairing.{withArcs}
+use Rattle.join_intersection.proofs.IntersectionBytes.{intersection-counts}
+use Rattle.join_intersection.proofs.IntersectionFits.{intersection-fits}
+use Rattle.join_intersection.proofs.ManyOps.{large-refused, many-refused, none-many}
+use Rattle.join_intersection.proofs.product.Statement.{statement}
+use Rattle.join_intersection.proofs.product.Tie as tie
+use Rattle.file_writing.proofs.Laws.{file-written}
+
+-- the intersection, its counts, and that these are small
+abbrev joined : tie.Start → Automaton
+joined s = intersection (automatonOf (s .args .first .now)) (automatonOf (s .args .second .now))
+
+abbrev begun : tie.After-count-arcs → tie.Start
+begun c = c .before .before .before .before .before .before .before
+
+counts : (c : tie.After-product-counts2) → sizes (joined (begun (c .before .before))) ≡ c .product-counts2 .result
+counts c =
+    let s = begun (c .before .before) in
+    ap (λ (n : ℕ). withArcs n (sizes (joined s))) (sym (c .before .before .count-arcs .ensures .0 .arcs))
+    ∙ c .product-counts2 .ensures (automatonOf (s .args .first .now)) (automatonOf (s .args .second .now)) (valid-sizes _ _ (s .pre .first)) (valid-sizes _ _ (s .pre .second))
+
+small : (c : tie.After-product-counts2) → (c .product-counts2 .result .letters ≤ 64) × (c .product-counts2 .result .states ≤ 65536) × (c .before .before .count-arcs .result .size ≤ 4836032512)
+small c =
+    let s = begun (c .before .before) in
+    let a = s .args in
+    let ra = valid-ranges _ _ (s .pre .first) in
+    let rb = valid-ranges _ _ (s .pre .second) in
+    let la = valid-lengths _ _ (s .pre .first) in
+    let lb = valid-lengths _ _ (s .pre .second) in
+    let e = sym (counts c) ∙ intersection-counts (automatonOf (a .first .now)) (automatonOf (a .second .now)) in
+    let pairs : c .product-counts2 .result .states ≡ a .a .states * a .b .states = ap (λ (d : Counts). d .states) e ∙ ap₂ (λ (m n : ℕ). m * n) (la .1) (lb .1) in
+    (omega (arith, ap (λ (d : Counts). d .letters) e, ra .letters), omega (arith, mul-le-mul-left (a .a .states) (rb .states), ra .states), c .before .before .count-arcs .ensures .2)
+
+-- the answer
+answered : (c : tie.After-decide) → let s = begun (c .before .before .before .before .before .before) in c .decide .result ≡ writtenOf (joined s) (length (s .args .out .now))
+answered c =
+    let u = c .before .before .before .before in
+    let count = u .before .before in
+    let s = begun count in
+    let t = count .count-arcs .ensures .0 in
+    let r = u .product-counts2 .result in
+    let n = counts u in
+    c .decide .ensures
+    ∙ decided-written (joined s) (length (s .args .out .now)) r (12 + r .letters + r .states + count .count-arcs .result .size) (none-many (joined s .arcs) (sym (t .many) ∙ u .before .if2 .left)) n
+    (omega (arith, bytes-length (joined s), ap (λ (d : Counts). d .letters) n, ap (λ (d : Counts). d .states) n, t .size))
+
+product-counts-requires : tie.Need-product-counts-requires
+product-counts-requires c κs =
+    let v = c .before .before .before .pre in
+    (valid-ranges _ _ (v .first), valid-ranges _ _ (v .second))
+
+returns : tie.Need-returns
+returns c =
+    let n = c .before .before in
+    let s = n .before .before .before .before in
+    let e = n .product-counts .ensures (automatonOf (s .args .first .now)) (automatonOf (s .args .second .now)) (valid-sizes _ _ (s .pre .first)) (valid-sizes _ _ (s .pre .second)) in
+    (sym (large-refused (joined s) (length (s .args .out .now)) (ap manyCounts e ∙ sym (c .before .is-beyond .ensures) ∙ c .if1 .taken)), refl)
+
+returns-2 : tie.Need-returns-2
+returns-2 c =
+    let count = c .before in
+    let s = begun count in
+    (sym (many-refused (joined s) (length (s .args .out .now)) (sym (count .count-arcs .ensures .0 .many) ∙ c .if2 .taken)), refl)
+
+product-counts-requires-2 : tie.Need-product-counts-requires-2
+product-counts-requires-2 c κs =
+    let v = begun (c .before) .pre in
+    (valid-ranges _ _ (v .first), valid-ranges _ _ (v .second))
+
+add-size : tie.Need-add-size
+add-size c = omega (arith, small (c .before))
+
+add-size-2 : tie.Need-add-size-2
+add-size-2 c = omega (arith, small (c .before .before))
+
+add-size-3 : tie.Need-add-size-3
+add-size-3 c = omega (arith, small (c .before .before .before))
+
+returns-3 : tie.Need-returns-3
+returns-3 c = (answered (c .before .before), rw (c .enum-told2 .given .1))
+
+write-product-requires : tie.Need-write-product-requires
+write-product-requires c κs =
+    let d = c .before .before .before in
+    let u = d .before .before .before .before in
+    let s = begun (u .before .before) in
+    let v = s .pre in
+    let w = written-bytes (joined s) (length (s .args .out .now)) (sym (answered d) ∙ c .before .enum-told .given .1) in
+    (v, counts u, intersection-fits _ _ (valid-fits _ _ (v .first)) (valid-fits _ _ (v .second)) (v .shared) (w .within), w .room)
+
+returns-4 : tie.Need-returns-4
+returns-4 c =
+    let w = c .before .before in
+    let told = w .before .before in
+    (answered (told .before .before), rw (told .enum-told .given .1) (file-written (w .write-product .ensures)))
+
+pub product-spec : {M : Type 1} → statement M
+product-spec =
+    tie.close
+    (tie.spec
+    product-counts-requires
+    (λ c κs. search needs)
+    returns
+    (λ c κs. search needs)
+    returns-2
+    product-counts-requires-2
+    add-size
+    add-size-2
+    add-size-3
+    (λ c κs. search needs)
+    (λ c. search needs)
+    (λ c. search needs)
+    returns-3
+    write-product-requires
+    (λ c. search needs)
+    returns-4)

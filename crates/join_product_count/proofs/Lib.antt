@@ -1,0 +1,4 @@
+pub mod ArcsOf
+pub mod Groups
+pub mod Uncounted
+pub mod Laws

@@ -1,0 +1,81 @@
+-- Uncounted: counts of arcs: what is left to count of a list, one step of it, and the counts of a single arc and of equally long ones.
+use mathlib.Core.Path.{_≡_, _∙_, ap, refl, sym}
+use mathlib.Core.Bool.{Bool, false, _||_, or-assoc, or-false}
+use mathlib.Core.List.{List, [], _∷_, _++_, map}
+use Prim.Native.Nat.{ℕ, suc, zero, _+_, _*_, _≤_}
+use native.Mathlib.Nat.{suc-mul, zero-mul}
+use native.Mathlib.Omega.{arith}
+use borrow.Author.Tests.{le-ltb}
+use lib.Dec.{ltb}
+use lib.ListN.{length, length-append}
+use Rattle.automata.specs.Lists.{any, countFrom}
+use Rattle.automata.specs.Automaton.{Arc}
+use Rattle.format.specs.Encoding.{arcBytes, arcsBytes}
+use Rattle.file_arc_writing.proofs.Laws.{arc-length}
+use Rattle.file_writing.proofs.Laws.{arcs-append}
+use Rattle.join_parts.specs.Joining.{manyOps}
+use Rattle.join_product_count.specs.declared.Tally.{Tally}
+use Rattle.join_product_count.specs.Pairing.{Tallied}
+
+any-append : {A : Type 0} (t : A → Bool) (l r : List A) → any t (l ++ r) ≡ (any t l || any t r)
+unfolding any
+any-append t [] r = refl
+any-append t (x ∷ l) r = rw (any-append t l r) (sym (or-assoc (t x) (any t l) (any t r)))
+
+-- of the count of `all`, that of `rest` is left
+pub record Uncounted (t : Tally) (rest all : List Arc) : Type 0 where
+  pub arcs : t .arcs + length rest ≡ length all
+  pub size : t .size + length (arcsBytes rest) ≡ length (arcsBytes all)
+  pub many : (t .many || any manyOps rest) ≡ any manyOps all
+
+pub uncounted-all : (all : List Arc) → Uncounted (record { arcs = 0; size = 0; many = false }) all all
+uncounted-all all = record { arcs = omega arith; size = omega arith; many = refl }
+
+abbrev pub both : Tally → Tally → Tally
+both t u = record { arcs = t .arcs + u .arcs; size = t .size + u .size; many = t .many || u .many }
+
+-- a part of it is counted
+pub uncounted-less : {t u : Tally} {all : List Arc} (part rest : List Arc) → Tallied u part → Uncounted t (part ++ rest) all → Uncounted (both t u) rest all
+uncounted-less {t} {u} part rest p c = record {
+  arcs = omega (arith, p .arcs, c .arcs, length-append part rest);
+  size = omega (arith, p .size, c .size, ap length (arcs-append part rest), length-append (arcsBytes part) (arcsBytes rest));
+  many = ap (λ (b : Bool). t .many || b || any manyOps rest) (p .many) ∙ or-assoc (t .many) (any manyOps part) (any manyOps rest) ∙ ap (λ (b : Bool). t .many || b) (sym (any-append manyOps part rest)) ∙ c .many;
+}
+
+-- all is counted
+pub uncounted-none : {t : Tally} {all : List Arc} → Uncounted t [] all → Tallied t all
+unfolding arcsBytes any
+uncounted-none {t} c = record { arcs = omega (arith, c .arcs); size = omega (arith, c .size); many = sym (or-false (t .many)) ∙ c .many }
+
+-- two lists
+pub tallied-append : {t u : Tally} (l r : List Arc) → Tallied t l → Tallied u r → Tallied (both t u) (l ++ r)
+tallied-append l r p q = record {
+  arcs = omega (arith, p .arcs, q .arcs, length-append l r);
+  size = omega (arith, p .size, q .size, ap length (arcs-append l r), length-append (arcsBytes l) (arcsBytes r));
+  many = rw (p .many, q .many) (sym (any-append manyOps l r));
+}
+
+-- ---- counts of few arcs
+pub none-tallied : Tallied (record { arcs = 0; size = 0; many = false }) []
+unfolding arcsBytes any
+none-tallied = record { arcs = refl; size = refl; many = refl }
+
+pub one-tallied : (x : Arc) (p : ℕ) → length (x .ops) ≡ p → Tallied (record { arcs = 1; size = 4 + 2 * p; many = ltb 8 p }) (x ∷ [])
+unfolding arcsBytes any
+one-tallied x p e = record {
+  arcs = refl;
+  size = omega (arith, length-append (arcBytes x) [], arc-length x);
+  many = rw e (sym (or-false (ltb 8 p)));
+}
+
+-- as many as states, each with p operations
+pub all-tallied : (g : ℕ → Arc) (p : ℕ) → ((i : ℕ) → length (g i .ops) ≡ p) → p ≤ 8 → (j n : ℕ) → Tallied (record { arcs = n; size = n * (4 + 2 * p); many = false }) (map g (countFrom j n))
+unfolding arcsBytes any countFrom
+all-tallied g p e h j zero = record { arcs = refl; size = zero-mul (4 + 2 * p); many = refl }
+all-tallied g p e h j (suc n) =
+    let rest = all-tallied g p e h (suc j) n in
+    record {
+      arcs = ap suc (rest .arcs);
+      size = omega (arith, suc-mul n (4 + 2 * p), rest .size, length-append (arcBytes (g j)) (arcsBytes (map g (countFrom (suc j) n))), arc-length (g j), e j);
+      many = rw (e j, le-ltb 8 p h) (rest .many);
+    }

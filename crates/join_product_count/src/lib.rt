@@ -1,0 +1,112 @@
+// pairing: the arcs of an intersection, group by group (document 01, 'Joining books'): how many they are, how many bytes they take,
+// and whether one has more than 8 operations, before any is written.
+ghost use mathlib.Core.Path.{_≡_};
+ghost use mathlib.Core.List.{flatMap};
+ghost use Prim.Native.Nat.{ℕ, _+_, _≤_};
+ghost use lib.ListN.{length, drop};
+ghost use Rattle.automata.specs.Automaton.{Arc};
+ghost use Rattle.automata.specs.Joins.{intersection};
+ghost use Rattle.file_fields.specs.declared.Reading.the-variants.{Valid};
+ghost use Rattle.file_fields.specs.Parts.{arcSize};
+ghost use Rattle.format.specs.Reading.{readingOf};
+ghost use Rattle.format.specs.Decoding.{arcOf, automatonOf};
+ghost use Rattle.join_product_count.specs.Pairing.{jointWith, emptyWith, Tallied};
+use format::Counts;
+use format::fields::arc_size;
+use format::fields::byte;
+
+// What a count says of arcs: how many they are, how many bytes they take, whether one has more than 8 operations.
+pub struct Tally {
+    pub arcs: usize,
+    pub size: usize,
+    pub many: bool,
+}
+
+// The arc at a place of the first file with each arc of the second of its letter.
+fn count_joint(first: &[u8], from: usize, b: Counts, second: &[u8]) -> Tally
+    requires { ⌜ (from + arcSize (drop from (now first)) ≤ length (now first)) × (readingOf (now second) ≡ Valid b) ⌝ }
+    ensures { λ r. ⌜ ((n k : ℕ) → Tallied r (jointWith n k (automatonOf (now (second .entry)) .arcs) (arcOf (drop from (now (first .entry)))))) × (r .arcs ≤ 2048) × (r .size ≤ 2097152) ⌝ }
+{
+    let letter = byte(first, from + 1);
+    let p = byte(first, from + 3);
+    let mut arcs: usize = 0;
+    let mut size: usize = 0;
+    let mut many = false;
+    if letter == 255 {
+        return Tally { arcs, size, many };
+    }
+    let mut at = 12 + b.letters + b.states;
+    let mut i: usize = 0;
+    while i < b.arcs {
+        let ops = p + byte(second, at + 3);
+        if letter == byte(second, at + 1) {
+            arcs += 1;
+            size += 4 + 2 * ops;
+            many = many | (8 < ops);
+        }
+        at += arc_size(second, at);
+        i += 1;
+    }
+    Tally { arcs, size, many }
+}
+
+// Each lettered arc of the first with each arc of the second of its letter. Cost: the pairs of arcs.
+fn count_lettered(a: Counts, first: &[u8], b: Counts, second: &[u8]) -> Tally
+    requires { ⌜ (readingOf (now first) ≡ Valid a) × (readingOf (now second) ≡ Valid b) ⌝ }
+    ensures { λ r. ⌜ ((n k : ℕ) → Tallied r (flatMap (jointWith n k (automatonOf (now (second .entry)) .arcs)) (automatonOf (now (first .entry)) .arcs))) × (r .arcs ≤ 4194304) × (r .size ≤ 4294967296) ⌝ }
+{
+    let mut arcs: usize = 0;
+    let mut size: usize = 0;
+    let mut many = false;
+    let mut from = 12 + a.letters + a.states;
+    let mut i: usize = 0;
+    while i < a.arcs {
+        let t = count_joint(first, from, b, second);
+        arcs += t.arcs;
+        size += t.size;
+        many = many | t.many;
+        from += arc_size(first, from);
+        i += 1;
+    }
+    Tally { arcs, size, many }
+}
+
+// Each empty move of a file beside each of n states: arcs with as many operations as it has. Cost: the file's arcs.
+fn count_empty(c: Counts, file: &[u8], n: usize) -> Tally
+    requires { ⌜ (readingOf (now file) ≡ Valid c) × (n ≤ 256) ⌝ }
+    ensures { λ r. ⌜ ((f : Arc → ℕ → Arc) → ((x : Arc) (i : ℕ) → length (f x i .ops) ≡ length (x .ops)) → Tallied r (emptyWith f n (automatonOf (now (file .entry)) .arcs))) × (r .arcs ≤ 524288) × (r .size ≤ 270532608) ⌝ }
+{
+    let mut arcs: usize = 0;
+    let mut size: usize = 0;
+    let mut from = 12 + c.letters + c.states;
+    let mut i: usize = 0;
+    while i < c.arcs {
+        let bytes = arc_size(file, from);
+        if byte(file, from + 1) == 255 {
+            arcs += n;
+            size += n * bytes;
+        }
+        from += bytes;
+        i += 1;
+    }
+    Tally {
+        arcs,
+        size,
+        many: false,
+    }
+}
+
+// All arcs of the intersection. Cost: the pairs of arcs.
+pub fn count_arcs(a: Counts, first: &[u8], b: Counts, second: &[u8]) -> Tally
+    requires { ⌜ (readingOf (now first) ≡ Valid a) × (readingOf (now second) ≡ Valid b) ⌝ }
+    ensures { λ r. ⌜ Tallied r (intersection (automatonOf (now (first .entry))) (automatonOf (now (second .entry))) .arcs) × (r .arcs ≤ 5242880) × (r .size ≤ 4836032512) ⌝ }
+{
+    let joint = count_lettered(a, first, b, second);
+    let left = count_empty(a, first, b.states);
+    let right = count_empty(b, second, a.states);
+    Tally {
+        arcs: joint.arcs + left.arcs + right.arcs,
+        size: joint.size + left.size + right.size,
+        many: joint.many | left.many | right.many,
+    }
+}

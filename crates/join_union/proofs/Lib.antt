@@ -1,0 +1,3 @@
+pub mod UnionBytes
+pub mod UnionFits
+pub mod Laws

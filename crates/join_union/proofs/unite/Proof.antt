@@ -1,0 +1,109 @@
+-- `join_union::unite` meets its contract.
+use mathlib.Core.Path.{_∙_, _≡_, ap, sym}
+use Prim.Native.Nat.{_+_, _≤_}
+use native.Mathlib.Omega.{arith}
+use borrow.Author.Needs.{needs}
+use lib.ListN.{length}
+use Rattle.automata.specs.Automaton.{Automaton}
+use Rattle.automata.specs.Joins.{union}
+use Rattle.file_fields.specs.declared.Counts.{Counts}
+use Rattle.format.specs.Decoding.{automatonOf}
+use Rattle.format.specs.Encoding.{sizes}
+use Rattle.file_laws.proofs.Laws.{valid-fits, valid-ranges, valid-sizes}
+use Rattle.join_parts.specs.Joining.{writtenOf}
+use Rattle.join_union.proofs.unite.Statement.{statement}
+use Rattle.join_union.proofs.UnionBytes.{union-counts, union-length}
+use Rattle.join_parts.proofs.Laws.{decided-written, valid-lengths, written-bytes}
+use Rattle.join_union.proofs.UnionFits.{union-fits, union-ops}
+use Rattle.join_union.proofs.unite.Tie as tie
+use Rattle.file_writing.proofs.Laws.{file-written}
+
+-- the automata, and the counts of their union
+abbrev joined : tie.Start → Automaton
+joined s = union (automatonOf (s .args .first .now)) (automatonOf (s .args .second .now))
+
+counts : (c : tie.After-union-counts) → sizes (joined (c .before .before .before .before)) ≡ c .union-counts .result
+counts c =
+    let s = c .before .before .before .before in
+    c .union-counts .ensures (automatonOf (s .args .first .now)) (automatonOf (s .args .second .now)) (valid-sizes _ _ (s .pre .first)) (valid-sizes _ _ (s .pre .second))
+
+-- the counts are small
+small : (c : tie.After-union-counts) → (c .union-counts .result .letters ≤ 64) × (c .union-counts .result .states ≤ 513)
+small c =
+    let s = c .before .before .before .before in
+    let ra = valid-ranges _ _ (s .pre .first) in
+    let rb = valid-ranges _ _ (s .pre .second) in
+    let la = valid-lengths _ _ (s .pre .first) in
+    let lb = valid-lengths _ _ (s .pre .second) in
+    let e = sym (counts c) ∙ union-counts (automatonOf (s .args .first .now)) (automatonOf (s .args .second .now)) in
+    (omega (arith, ap (λ (d : Counts). d .letters) e, ra .letters), omega (arith, ap (λ (d : Counts). d .states) e, ra .states, rb .states))
+
+-- the answer
+answered : (c : tie.After-decide) → let s = c .before .before .before .before .before .before .before .before .before in
+    c .decide .result ≡ writtenOf (joined s) (length (s .args .out .now))
+answered c =
+    let second = c .before in
+    let first = second .before in
+    let u = first .before .before .before in
+    let s = u .before .before .before .before in
+    let x = automatonOf (s .args .first .now) in
+    let y = automatonOf (s .args .second .now) in
+    let r = u .union-counts .result in
+    let size = 24 + r .letters + r .states + first .arcs-size .result + second .arcs-size2 .result in
+    let n = counts u in
+    c .decide .ensures
+    ∙ decided-written (union x y) (length (s .args .out .now)) r size (union-ops x y (valid-fits _ _ (s .pre .first)) (valid-fits _ _ (s .pre .second)) (s .pre .shared)) n
+    (omega (arith, union-length x y, ap (λ (d : Counts). d .letters) n, ap (λ (d : Counts). d .states) n, first .arcs-size .ensures .0, second .arcs-size2 .ensures .0))
+
+union-counts-requires : tie.Need-union-counts-requires
+union-counts-requires c κs =
+    let s = c .before .before .before in
+    (valid-ranges _ _ (s .pre .first), valid-ranges _ _ (s .pre .second))
+
+add-size : tie.Need-add-size
+add-size c = omega (arith, small (c .before))
+
+add-size-2 : tie.Need-add-size-2
+add-size-2 c = omega (arith, small (c .before .before))
+
+add-size-3 : tie.Need-add-size-3
+add-size-3 c = omega (arith, small (c .before .before .before), c .arcs-size .ensures .1)
+
+add-size-4 : tie.Need-add-size-4
+add-size-4 c = omega (arith, small (c .before .before .before .before), c .before .arcs-size .ensures .1, c .arcs-size2 .ensures .1)
+
+returns : tie.Need-returns
+returns c = (answered (c .before .before), rw (c .enum-told2 .given .1))
+
+write-union-requires : tie.Need-write-union-requires
+write-union-requires c κs =
+    let d = c .before .before .before in
+    let u = d .before .before .before .before .before in
+    let s = u .before .before .before .before in
+    let w = written-bytes (joined s) (length (s .args .out .now)) (sym (answered d) ∙ c .before .enum-told .given .1) in
+    (s .pre, counts u, union-fits _ _ (valid-fits _ _ (s .pre .first)) (valid-fits _ _ (s .pre .second)) (s .pre .shared) (w .within), w .room)
+
+returns-2 : tie.Need-returns-2
+returns-2 c =
+    let w = c .before .before in
+    let told = w .before .before in
+    (answered (told .before .before), rw (told .enum-told .given .1) (file-written (w .write-union .ensures)))
+
+pub unite-spec : {M : Type 1} → statement M
+unite-spec =
+    tie.close
+    (tie.spec
+    union-counts-requires
+    add-size
+    add-size-2
+    (λ c κs. search needs)
+    add-size-3
+    (λ c κs. search needs)
+    add-size-4
+    (λ c κs. search needs)
+    (λ c. search needs)
+    (λ c. search needs)
+    returns
+    write-union-requires
+    (λ c. search needs)
+    returns-2)

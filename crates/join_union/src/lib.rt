@@ -1,0 +1,88 @@
+// unions: a new state 0 with an empty move into each automaton; the states of the second stand behind those of the first.
+ghost use mathlib.Core.Path.{_≡_};
+ghost use Prim.Native.Nat.{_+_, _≤_};
+ghost use lib.ListN.{length};
+ghost use Rattle.automata.specs.Automaton.{Automaton};
+ghost use Rattle.automata.specs.Joins.{union};
+ghost use Rattle.format.specs.Decoding.{automatonOf};
+ghost use Rattle.format.specs.Encoding.{sizes, arcsBytes, bytesOf};
+ghost use Rattle.format.specs.Limits.{Ranges, Fits};
+ghost use Rattle.file_writing.specs.Placing.{Appended};
+ghost use Rattle.file_writing.specs.Answers.{outputOf};
+ghost use Rattle.join_parts.specs.Joining.{Joinable, writtenOf};
+use file_writing::Written;
+use file_writing::front::write_front;
+use file_writing::parts::write_byte;
+use format::Counts;
+use join_parts::answer::arcs_size;
+use join_parts::answer::decide;
+use join_parts::answer::larger;
+use join_parts::flags::write_flags;
+use join_parts::groups::write_entry;
+use join_parts::groups::write_moved_arcs;
+
+// The counts of the union of automata with these counts.
+fn union_counts(a: Counts, b: Counts) -> Counts
+    requires { ⌜ Ranges a × Ranges b ⌝ }
+    ensures { λ r. ⌜ ((x y : Automaton) → sizes x ≡ a → sizes y ≡ b → sizes (union x y) ≡ r) ⌝ }
+{
+    Counts {
+        letters: a.letters,
+        states: 1 + a.states + b.states,
+        registers: larger(a.registers, b.registers),
+        symbols: larger(a.symbols, b.symbols),
+        arcs: 2 + a.arcs + b.arcs,
+    }
+}
+
+fn write_union_arcs(
+    out: &mut [u8],
+    at: usize,
+    a: Counts,
+    first: &[u8],
+    b: Counts,
+    second: &[u8],
+) -> usize
+    requires { ⌜ Joinable a b (now first) (now second) × (1 + a .states + b .states ≤ 256) × (at + length (arcsBytes (union (automatonOf (now first)) (automatonOf (now second)) .arcs)) ≤ length (now out)) ⌝ }
+    ensures { λ r. ⌜ Appended at (arcsBytes (union (automatonOf (now (first .entry))) (automatonOf (now (second .entry))) .arcs)) (now (out .entry)) (now (out .exit)) r ⌝ }
+{
+    let shift = 1 + a.states;
+    let next = write_entry(out, at, 1);
+    let left = write_entry(out, next, shift);
+    let right = write_moved_arcs(out, left, a, first, 1, 0);
+    write_moved_arcs(out, right, b, second, shift, 0)
+}
+
+fn write_union(
+    out: &mut [u8],
+    c: Counts,
+    a: Counts,
+    first: &[u8],
+    b: Counts,
+    second: &[u8],
+) -> usize
+    requires { ⌜ Joinable a b (now first) (now second) × (sizes (union (automatonOf (now first)) (automatonOf (now second))) ≡ c) × Fits (union (automatonOf (now first)) (automatonOf (now second))) × (length (bytesOf (union (automatonOf (now first)) (automatonOf (now second)))) ≤ length (now out)) ⌝ }
+    ensures { λ r. ⌜ Appended 0 (bytesOf (union (automatonOf (now (first .entry))) (automatonOf (now (second .entry))))) (now (out .entry)) (now (out .exit)) r ⌝ }
+{
+    let flags = write_front(out, c, a, first);
+    let left = write_byte(out, flags, 0);
+    let right = write_flags(out, left, a, first);
+    let arcs = write_flags(out, right, b, second);
+    write_union_arcs(out, arcs, a, first, b, second)
+}
+
+// The union of two files that are valid and list the same letters.
+pub fn unite(out: &mut [u8], a: Counts, first: &[u8], b: Counts, second: &[u8]) -> Written
+    requires { ⌜ Joinable a b (now first) (now second) ⌝ }
+    ensures answer { λ r. ⌜ r ≡ writtenOf (union (automatonOf (now (first .entry))) (automatonOf (now (second .entry)))) (length (now (out .entry))) ⌝ }
+    ensures output { λ r. ⌜ now (out .exit) ≡ outputOf r (bytesOf (union (automatonOf (now (first .entry))) (automatonOf (now (second .entry))))) (now (out .entry)) ⌝ }
+{
+    let c = union_counts(a, b);
+    let size = 24 + c.letters + c.states + arcs_size(a, first) + arcs_size(b, second);
+    let answer = decide(c, size, out.len());
+    let Written::Bytes(_) = answer else {
+        return answer;
+    };
+    write_union(out, c, a, first, b, second);
+    answer
+}

@@ -1,2 +1,0 @@
-pub mod Besides
-pub mod Numbering

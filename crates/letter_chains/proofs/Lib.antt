@@ -1,4 +1,0 @@
-pub mod Noting
-pub mod Linking
-pub mod Following
-pub mod LetteredFrame

@@ -1,0 +1,17 @@
+-- `line_text::digit` meets its contract: the test is that of the definition.
+use borrow.Author.Needs.{needs}
+use borrow.Author.Tests.{le-ltb, lt-ltb}
+use Rattle.line_text.specs.Digits.{digitOf}
+use Rattle.line_text.proofs.digit.Statement.{statement}
+use Rattle.line_text.proofs.digit.Tie as tie
+
+returns : tie.Need-returns
+unfolding digitOf
+returns c = rw (lt-ltb _ _ (c .if1 .taken))
+
+returns-2 : tie.Need-returns-2
+unfolding digitOf
+returns-2 c = rw (le-ltb _ _ (c .if1 .left))
+
+pub digit-spec : {M : Type 1} → statement M
+digit-spec = tie.close (tie.spec (λ c. search needs) (λ c. search needs) returns returns-2)

@@ -1,5 +1,0 @@
-pub mod Numbering
-pub mod Frames
-pub mod Fields
-pub mod Tabling
-pub mod Finding

@@ -1,3 +1,0 @@
-pub mod ArcsOf
-pub mod Groups
-pub mod Uncounted

@@ -1,5 +1,0 @@
-pub mod Packing
-pub mod Meaning
-pub mod Performing
-pub mod Places
-pub mod Linking

@@ -1,6 +1,0 @@
-pub mod LetterSets
-pub mod BlockFrame
-pub mod Visiting
-pub mod Onward
-pub mod Thinning
-pub mod Pruned

@@ -1,0 +1,6 @@
+pub mod Numbering
+pub mod Frames
+pub mod Fields
+pub mod Tabling
+pub mod Finding
+pub mod Laws

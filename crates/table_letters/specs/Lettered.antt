@@ -1,0 +1,54 @@
+-- Lettered: the listed plain arcs of a block found by their letter. Each has its source, and is in the chain of its letter's byte.
+use mathlib.Core.Path.{_≡_}
+use mathlib.Core.List.{List}
+use Prim.Native.Nat.{ℕ, _/_, _≤_, _<_}
+use lib.ListN.{length}
+use Rattle.table_operations.specs.Map.{arcsAt, blockEnd}
+use Rattle.word_fields.specs.Chains.{Chain}
+use Rattle.word_fields.specs.Fields.{field}
+use Rattle.table_sets.specs.Stepping.{endAt, startAt}
+
+-- the source of each listed arc, 2,048 fields; the chains of the arcs by their letter's byte: 2,048 next fields and 256 heads. They take
+-- the place of the second block, which comparing alone needs
+abbrev pub sources : ℕ
+sources = 6592
+
+abbrev pub letterNexts : ℕ
+letterNexts = 7104
+
+abbrev pub letterHeads : ℕ
+letterHeads = 7616
+
+abbrev pub letteredEnd : ℕ
+letteredEnd = 7680
+
+abbrev pub sourceOf : List ℕ → ℕ → ℕ
+sourceOf w k = field w sources k
+
+-- the letter's byte of listed arc k
+abbrev pub byteOf : List ℕ → ℕ → ℕ → ℕ
+byteOf w base k = field w (arcsAt base) k / 256
+
+abbrev pub LetterChain : List ℕ → ℕ → ℕ → Type 0
+LetterChain w base plain = Chain (byteOf w base) w letterHeads letterNexts 256 plain
+
+-- listed arc k stands among those of configuration s
+abbrev pub Stands : List ℕ → (base count plain s k : ℕ) → Type 0
+Stands w base count plain s k = (s < count) × (startAt w base s ≤ k) × (k < endAt w base count plain s)
+
+-- each of the `plain` listed arcs has as its source the configuration among whose arcs it stands
+pub record Sourced (w : List ℕ) (base count plain : ℕ) : Type 0 where
+  pub of : (k : ℕ) → k < plain → Stands w base count plain (sourceOf w k) k
+  pub own : (s k : ℕ) → Stands w base count plain s k → (k < plain) × (sourceOf w k ≡ s)
+
+-- what a step by one letter asks of the words, whatever they stand for
+pub record Followable (w : List ℕ) (base plain : ℕ) : Type 0 where
+  pub few : plain ≤ 2048
+  pub apart : blockEnd base ≤ sources
+  pub room : letteredEnd ≤ length w
+  pub small : (k : ℕ) → k < plain → sourceOf w k < 256
+  pub chain : LetterChain w base plain
+
+-- where all plain arcs are listed, each has its source and can be found by its letter
+abbrev pub Lettered : List ℕ → (base count plain : ℕ) → Type 0
+Lettered w base count plain = plain ≤ 2048 → Followable w base plain × Sourced w base count plain

@@ -1,0 +1,106 @@
+// letter_chains: the listed plain arcs of a block found by their letter, so that a step by one letter looks at the arcs with that letter
+// alone. Each listed arc has its source, and is in the chain of its letter's byte.
+ghost use mathlib.Core.Path.{_≡_};
+ghost use mathlib.Core.List.{List};
+ghost use Prim.Native.Nat.{ℕ, _≤_, _<_};
+ghost use lib.ListN.{length};
+ghost use Rattle.automata.specs.Live.{PlainArc, byLetter};
+ghost use Rattle.table_operations.specs.Map.{blockEnd};
+ghost use Rattle.word_fields.specs.Frame.{Kept};
+ghost use Rattle.word_sets.specs.Sets.{view, Settled};
+ghost use Rattle.table_sets.specs.Stepping.{FromList, Held, Starts};
+ghost use Rattle.table_letters.specs.Lettered.{sources, letterNexts, letteredEnd, sourceOf, LetterChain, Sourced, Followable, Lettered};
+use table_explore::map::BLOCK_ARCS;
+use table_explore::map::BLOCK_STARTS;
+use table_sets::end_of;
+use word_fields::chains::push;
+use word_fields::fill;
+use word_fields::get16;
+use word_fields::put16;
+
+// Where the sources and the chains stand (specs/Lettered.antt).
+const SOURCES: usize = 6592;
+
+const LETTER_NEXTS: usize = 7104;
+
+const LETTER_HEADS: usize = 7616;
+
+// The listed arcs from `from` to before `to` have the source c.
+// Cost: one step for each of them.
+fn note_source(w: &mut [u64], from: usize, to: usize, c: usize)
+    requires { ⌜ (from ≤ to) × ((to ≤ 2048) × ((c < 256) × (letterNexts ≤ length (now w)))) ⌝ }
+    ensures kept { λ _. ⌜ Kept sources letterNexts (now (w .entry)) (now (w .exit)) ⌝ }
+    ensures old { λ _. ⌜ ((k : ℕ) → k < from → sourceOf (now (w .exit)) k ≡ sourceOf (now (w .entry)) k) ⌝ }
+    ensures new { λ _. ⌜ ((k : ℕ) → from ≤ k → k < to → sourceOf (now (w .exit)) k ≡ c) ⌝ }
+{
+    let mut k = from;
+    while k < to {
+        put16(w, SOURCES, k, c);
+        k += 1;
+    }
+}
+
+// Each listed arc has its source.
+// Cost: one step for each of them.
+fn note_sources(w: &mut [u64], base: usize, count: usize, plain: usize)
+    requires { ⌜ (blockEnd base ≤ sources) × ((letteredEnd ≤ length (now w)) × ((0 < count) × Starts (now w) base count plain)) ⌝ }
+    ensures kept { λ _. ⌜ Kept sources letterNexts (now (w .entry)) (now (w .exit)) ⌝ }
+    ensures sourced { λ _. ⌜ Sourced (now (w .exit)) base count plain ⌝ }
+{
+    let mut c: usize = 0;
+    while c < count {
+        let from = get16(w, base + BLOCK_STARTS, c);
+        let to = end_of(w, base, count, plain, c);
+        note_source(w, from, to, c);
+        c += 1;
+    }
+}
+
+// Each listed arc joins the chain of its letter's byte.
+// Cost: one step for each of them.
+fn link_letters(w: &mut [u64], base: usize, plain: usize)
+    requires { ⌜ (blockEnd base ≤ sources) × ((letteredEnd ≤ length (now w)) × (plain ≤ 2048)) ⌝ }
+    ensures kept { λ _. ⌜ Kept letterNexts letteredEnd (now (w .entry)) (now (w .exit)) ⌝ }
+    ensures chain { λ _. ⌜ LetterChain (now (w .exit)) base plain ⌝ }
+{
+    fill(w, LETTER_HEADS, 64);
+    let mut k: usize = 0;
+    while k < plain {
+        let arc = get16(w, base + BLOCK_ARCS, k);
+        push(w, LETTER_HEADS, LETTER_NEXTS, arc / 256, k);
+        k += 1;
+    }
+}
+
+// The sources and the chains of the listed arcs, where all plain arcs are listed.
+// Cost: two steps for each of them.
+pub fn link(w: &mut [u64], base: usize, count: usize, plain: usize)
+    requires { ⌜ (blockEnd base ≤ sources) × ((letteredEnd ≤ length (now w)) × ((0 < count) × (plain ≤ 2048 → Starts (now w) base count plain))) ⌝ }
+    ensures kept { λ _. ⌜ Kept sources letteredEnd (now (w .entry)) (now (w .exit)) ⌝ }
+    ensures linked { λ _. ⌜ Lettered (now (w .exit)) base count plain ⌝ }
+{
+    if plain <= 2048 {
+        note_sources(w, base, count, plain);
+        link_letters(w, base, plain);
+    }
+}
+
+// The live set after the letter l, of a set that no empty move leaves.
+// Cost: one step for each listed arc with that letter, and a row where its source is live.
+pub fn follow(w: &[u64], base: usize, plain: usize, set: [u64; 4], l: usize) -> [u64; 4]
+    requires { ⌜ (l < 256) × Followable (now w) base plain ⌝ }
+    ensures { λ r. ⌜ ((count letters : ℕ) (arcs : List PlainArc) → Sourced (now (w .entry)) base count plain → Held count letters arcs (FromList (now (w .entry)) base count plain) → Settled count arcs set → l < letters
+        → (view count r ≡ byLetter count arcs (view count set) l) × Settled count arcs r) ⌝ }
+{
+    let mut out = word_sets::empty();
+    let mut k = get16(w, LETTER_HEADS, l);
+    while k < plain {
+        if word_sets::has(set, get16(w, SOURCES, k)) {
+            let target = get16(w, base + BLOCK_ARCS, k) % 256;
+            let more = word_sets::union(out, word_sets::rows::load(w, base, target));
+            out = more;
+        }
+        k = get16(w, LETTER_NEXTS, k);
+    }
+    out
+}

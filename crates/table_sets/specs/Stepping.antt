@@ -1,0 +1,82 @@
+-- Stepping: what the words of a block stand for once its rows are closed, and the live sets of all letters that a step leaves.
+-- Where a block has its rows, its plain arcs and their starts is said in crate table_operations, specs/Map.antt.
+use mathlib.Core.Path.{_≡_}
+use mathlib.Core.Logic.{_⊎_}
+use mathlib.Core.Bool.{cond}
+use mathlib.Core.List.{List, [], _∷_, List·Memᴰ}
+use mathlib.Core.Option.{some}
+use Prim.Native.Nat.{ℕ, _+_, _/_, _%_, _≤_, _<_}
+use lib.Dec.{T, ltb}
+use lib.ListN.{length}
+use Rattle.automata.specs.Automaton.{Run}
+use Rattle.automata.specs.Live.{Moves, PlainArc}
+use Rattle.table_operations.specs.Map.{arcsAt, blockEnd, startsAt}
+use Rattle.word_fields.specs.Fields.{field}
+use Rattle.word_sets.specs.Sets.{bit}
+use Rattle.word_sets.specs.Rows.{related, row}
+
+-- the set of letter l: row l from acc on where the mask `met` has l, else the empty set
+unfoldable pub setOf : List ℕ → ℕ → ℕ → ℕ → List ℕ
+unfolding bit row
+setOf w acc met l = cond (bit met l) (row w acc l) (0 ∷ 0 ∷ 0 ∷ 0 ∷ [])
+
+-- where the listed arcs of configuration c start, and where they end, of `count` configurations and `plain` arcs
+unfoldable pub startAt : List ℕ → ℕ → ℕ → ℕ
+unfolding field
+startAt w base c = field w (startsAt base) c
+
+unfoldable pub endAt : List ℕ → ℕ → ℕ → ℕ → ℕ → ℕ
+unfolding startAt
+endAt w base count plain c = cond (ltb (c + 1) count) (startAt w base (c + 1)) plain
+
+-- among the arcs listed from `from` to before `to` one with letter l has j in the row of its target
+pub record Among (w : List ℕ) (base from to l j : ℕ) : Type 0 where
+  pub at : ℕ
+  pub low : from ≤ at
+  pub high : at < to
+  pub letter : field w (arcsAt base) at / 256 ≡ l
+  pub leads : T (related w base (field w (arcsAt base) at % 256) j)
+
+-- what is listed of configuration s by letter l leads to j, of `count` configurations and `plain` arcs
+abbrev pub FromList : List ℕ → ℕ → ℕ → ℕ → ℕ → ℕ → ℕ → Type 0
+FromList w base count plain s l j = Among w base (startAt w base s) (endAt w base count plain s) l j
+
+-- a plain arc of s with letter l, and then a run of empty moves, lead to j
+abbrev pub Reached : List PlainArc → ℕ → ℕ → ℕ → Type 0
+Reached arcs s l j = (t : ℕ) × Moves arcs s (some l) t × Run (Moves arcs) t [] j
+
+-- `From` tells the plain arcs of n configurations to every set that no empty move leaves: it leads nowhere that they do not, and where
+-- they lead from s, it leads from s or from a configuration that empty moves lead to from s
+pub record Held (n letters : ℕ) (arcs : List PlainArc) (From : ℕ → ℕ → ℕ → Type 0) : Type 0 where
+  pub within : (a : PlainArc) → List·Memᴰ a arcs → a .target < n
+  pub sound : (s l j : ℕ) → s < n → l < letters → From s l j → Reached arcs s l j
+  pub full : (s l j : ℕ) → s < n → l < letters → Reached arcs s l j → (d : ℕ) × Run (Moves arcs) s [] d × From d l j
+
+-- the plain arcs that are told by the list of w, whatever they are, are told by the list of w' too, where the rows of w hold ends of runs
+-- of empty moves alone
+abbrev pub ToldStill : (w w' : List ℕ) (base count plain left : ℕ) → Type 0
+ToldStill w w' base count plain left =
+    (letters : ℕ) (arcs : List PlainArc) → letters ≤ 64 → ((i j : ℕ) → i < count → T (related w base i j) → Run (Moves arcs) i [] j)
+    → Held count letters arcs (FromList w base count plain) → Held count letters arcs (FromList w' base count left)
+
+-- one of the first c configurations, s itself or one in its row, is listed to lead by letter l to j
+pub record Covered (w : List ℕ) (base c plain s l j : ℕ) : Type 0 where
+  pub source : ℕ
+  pub below : source < c
+  pub near : (source ≡ s) ⊎ T (related w base s source)
+  pub leads : FromList w base c plain source l j
+
+-- ---- what a step asks of the words, whatever they stand for
+-- the block and the 64 rows from acc on are there, and share no word
+pub record Room (w : List ℕ) (base acc : ℕ) : Type 0 where
+  pub block : blockEnd base ≤ length w
+  pub rows : acc + 256 ≤ length w
+  pub apart : (acc + 256 ≤ base) ⊎ (blockEnd base ≤ acc)
+
+-- the starts and the end of the listed arcs are places of the list, from 0 on, and they rise
+pub record Starts (w : List ℕ) (base count plain : ℕ) : Type 0 where
+  pub few : count ≤ 256
+  pub less : plain ≤ 2048
+  pub zero : 0 < count → startAt w base 0 ≡ 0
+  pub each : (c : ℕ) → c < count → startAt w base c ≤ plain
+  pub rises : (c : ℕ) → c < count → startAt w base c ≤ endAt w base count plain c

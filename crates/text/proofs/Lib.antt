@@ -1,2 +1,0 @@
-pub mod WritingLaws
-pub mod DigitLaws

@@ -1,2 +1,0 @@
-pub mod UnionBytes
-pub mod UnionFits
