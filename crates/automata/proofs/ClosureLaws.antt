@@ -11,7 +11,8 @@ use native.Mathlib.Nat.{not-suc-le-zero}
 use native.Mathlib.Numerals.{one-add}
 use native.Mathlib.Omega.{arith}
 use Rattle.automata.specs.Automaton.{Accepts, Arc, Automaton, Configuration, DoesAll, Final, Op, Produces, Run, WellFormed, silent, spell, start, stay, writes}
-use Rattle.automata.specs.Joins.{Star, arcFrom, clearing, closure, emptyMove, finalStates, more, moved, nothing}
+use Rattle.automata.specs.Joins.{arcFrom, clearing, closure, emptyMove, finalStates, moved}
+use Rattle.automata.specs.Languages.{Star, more, nothing}
 use Rattle.automata.specs.Lists.{countFrom}
 use Rattle.automata.specs.Performing.{act, holds, perform}
 use Rattle.automata.specs.Unfolding.{readZero}

@@ -9,7 +9,8 @@ use mathlib.Core.Option.{Option, Option·some-injective, none, some}
 use native.Mathlib.Nat.{add-zero}
 use native.Mathlib.Omega.{arith}
 use Rattle.automata.specs.Automaton.{Accepts, Arc, Automaton, Configuration, DoesAll, Final, Produces, Run, WellFormed, silent, spell, start, states, stay}
-use Rattle.automata.specs.Joins.{Split, concatenation, emptyMove, finalStates, movedArc}
+use Rattle.automata.specs.Joins.{concatenation, emptyMove, finalStates, movedArc}
+use Rattle.automata.specs.Languages.{Concatenation}
 use Rattle.automata.specs.Performing.{holds}
 use Rattle.automata.specs.Unfolding.{readZero}
 use Rattle.automata.proofs.ListLaws.{at-back, at-front, getElem?-append, getElem?-lt, none-some}
@@ -143,7 +144,7 @@ module _ (a b : Automaton) (va : WellFormed a) (vb : WellFormed b) where
   concat-from w t = inA (start a) (start u) (t .end) startA (t .run) (t .final)
 
   -- THE LAW of concatenation
-  pub concatenation-iff : (w : List ℕ) → Accepts u w ↔ Split (Accepts a) (Accepts b) w
+  pub concatenation-iff : (w : List ℕ) → Accepts u w ↔ Concatenation (Accepts a) (Accepts b) w
   concatenation-iff w = (
     λ t. let s = concat-from w t in record { left = s .left; right = s .right; whole = s .whole; first = record { end = s .end; run = s .run; final = s .final }; second = s .rest },
     λ s. rw (s .whole) (concat-to (s .left) (s .right) (s .first) (s .second)),

@@ -5,7 +5,7 @@ use Prim.Native.Nat.{_≤_, suc, zero-le, ℕ}
 use lib.ListN.{length}
 use mathlib.Core.List.{List, List·Memᴰ, List·Memᴰ·cases-cons, List·Memᴰ·head, List·Memᴰ·tail, Memᴰ·cast, [], _∷_}
 use native.Mathlib.Omega.{arith}
-use Rattle.automata.specs.Counting.{Apart, Counts, MoreThan}
+use Rattle.automata.specs.Counting.{Apart, Exactly, MoreThan}
 
 record Without {A : Type 0} (x : A) (m : List A) : Type 0 where
   rest : List A
@@ -26,7 +26,7 @@ apart-le {A} (x ∷ l) m d h = go (without (h x (List·Memᴰ·head refl))) (λ 
     go : Without x m → ((n : List A) → ((y : A) → List·Memᴰ y l → List·Memᴰ y n) → length l ≤ length n) → suc (length l) ≤ length m
     go r ih = omega (arith, r .shorter, ih (r .rest) (λ y k. ⊎-elim (λ e. absurd (d .0 (Memᴰ·cast (sym e) k))) (λ i. i) (r .movedRegister y (h y (List·Memᴰ·tail k)))))
 
-pub counts-unique : {A : Type 0} {P : A → Type 0} {m n : ℕ} → Counts P m → Counts P n → m ≡ n
+pub counts-unique : {A : Type 0} {P : A → Type 0} {m n : ℕ} → Exactly P m → Exactly P n → m ≡ n
 counts-unique c d = omega (
   arith,
   c .many,
@@ -35,11 +35,11 @@ counts-unique c d = omega (
   apart-le (d .list) (c .list) (d .apart) (λ x k. (c .each x) .1 ((d .each x) .0 k)),
 )
 
-pub not-more : {A : Type 0} {P : A → Type 0} {m n : ℕ} → Counts P m → m ≤ n → ¬ MoreThan P n
+pub not-more : {A : Type 0} {P : A → Type 0} {m n : ℕ} → Exactly P m → m ≤ n → ¬ MoreThan P n
 not-more c h d = omega (arith, c .many, d .many, apart-le (d .list) (c .list) (d .apart) (λ x k. (c .each x) .1 (d .each x k)))
 
 -- what holds of the same things has the same number
-pub counts-same : {A : Type 0} {P Q : A → Type 0} {n : ℕ} → ((x : A) → P x ↔ Q x) → Counts P n → Counts Q n
+pub counts-same : {A : Type 0} {P Q : A → Type 0} {n : ℕ} → ((x : A) → P x ↔ Q x) → Exactly P n → Exactly Q n
 counts-same f c = record { list = c .list; apart = c .apart; many = c .many; each = λ x. (λ k. (f x) .0 ((c .each x) .0 k), λ q. (c .each x) .1 ((f x) .1 q)) }
 
 pub more-same : {A : Type 0} {P Q : A → Type 0} {n : ℕ} → ((x : A) → P x ↔ Q x) → MoreThan P n → MoreThan Q n

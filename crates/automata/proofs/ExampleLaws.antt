@@ -8,7 +8,7 @@ use lib.ListN.{length}
 use mathlib.Core.Bool.{Bool, _&&_, not, true}
 use mathlib.Core.List.{List, List·Memᴰ, List·Memᴰ·cases-cons, List·Memᴰ·not-nil, [], _∷_}
 use Rattle.automata.specs.Automaton.{Automaton, Reachable}
-use Rattle.automata.specs.Counting.{Apart, Counts}
+use Rattle.automata.specs.Counting.{Apart, Exactly}
 use Rattle.automata.specs.Examples.{Holds, Row, accepts, automatonT, automatonV, reaches, rejects, rows, unfolds-to}
 use Rattle.automata.specs.Exploration.{has}
 use Rattle.automata.specs.Pairs.{different, same, verdict}
@@ -55,7 +55,7 @@ checked-holds L (rejects x w) t =
     λ l. (not-iff (acceptedBytes x L w)) .0 (p .2) ((acceptedBytes-iff x (p .0) L (p .1) w) .1 l)
 checked-holds L (reaches x n) t =
     let p = within-fits L x (eqb (length (configurations x L)) n) t in
-    subst (Counts (Reachable x)) (eqb→eq (length (configurations x L)) n (p .2)) (configurations-count x L (p .1))
+    subst (Exactly (Reachable x)) (eqb→eq (length (configurations x L)) n (p .2)) (configurations-count x L (p .1))
 checked-holds L (unfolds-to x n) t = let p = within-fits L x (eqb (length (plainArcs x L)) n) t in eqb→eq (length (plainArcs x L)) n (p .2)
 
 all-checked : ℕ → List Row → Bool

@@ -11,7 +11,7 @@ use native.Mathlib.Decide.{decLt}
 use native.Mathlib.Nat.{add-suc, add-zero, le-of-suc-le-suc, not-suc-le-zero}
 use native.Mathlib.Omega.{arith}
 use Rattle.automata.specs.Automaton.{start}
-use Rattle.automata.specs.Counting.{Apart, Counts, MoreThan}
+use Rattle.automata.specs.Counting.{Apart, Exactly, MoreThan}
 use Rattle.automata.specs.Exploration.{Distinct, Reach, add, addAll, first, has, known, later, targets, walk}
 use Rattle.automata.proofs.ListLaws.{any-iff, at-mem, getElem?-append, getElem?-lt, getElem?-none, getElem?-some, mem-at, none-some, snoc-at-cases}
 
@@ -217,7 +217,7 @@ module _ {X : Type 0} (same : X → X → Bool) (next : X → List X) (start : L
 
 -- ---- the walk counts what can be reached, up to its limit
 module _ {X : Type 0} (same : X → X → Bool) (eq : (x y : X) → T (same x y) ↔ (x ≡ y)) (next : X → List X) (start : List X) (d : Distinct same start) where
-  pub walk-counts : (L : ℕ) → length (known same next start L) ≤ L → Counts (Reach next start) (length (known same next start L))
+  pub walk-counts : (L : ℕ) → length (known same next start L) ≤ L → Exactly (Reach next start) (length (known same next start L))
   walk-counts L h = record {
     list = known same next start L;
     apart = distinct-apart same eq (known same next start L) (known-distinct same next start d L);

@@ -5,7 +5,8 @@ use Prim.Native.Nat.{_≤_, ℕ}
 use lib.ListN.{length}
 use mathlib.Core.List.{List}
 use Rattle.automata.specs.Automaton.{Accepts, Automaton, WellFormed}
-use Rattle.automata.specs.Joins.{Split, Star, closure, concatenation, intersection, union}
+use Rattle.automata.specs.Joins.{closure, concatenation, intersection, union}
+use Rattle.automata.specs.Languages.{Concatenation, Star}
 use Rattle.automata.specs.Unfolding.{configurations, unfolded}
 use Rattle.automata.specs.Words.{Language, Spelled}
 use Rattle.automata.proofs.ClosureLaws.{closure-iff}
@@ -23,10 +24,10 @@ module _ (a b : Automaton) (va : WellFormed a) (vb : WellFormed b) (shared : b .
   union-language s = subst (λ (l : List ℕ). Language (union a b) s ↔ (Language a s ⊎ Spelled l (Accepts b) s)) (sym shared)
       (iff-trans (spelled-same (a .alphabet) (Accepts (union a b)) (λ w. Accepts a w ⊎ Accepts b w) (union-iff a b va vb) s) (spelled-either (a .alphabet) (Accepts a) (Accepts b) s))
 
-  pub concatenation-language : (s : List ℕ) → Language (concatenation a b) s ↔ Split (Language a) (Language b) s
+  pub concatenation-language : (s : List ℕ) → Language (concatenation a b) s ↔ Concatenation (Language a) (Language b) s
   unfolding concatenation
-  concatenation-language s = subst (λ (l : List ℕ). Language (concatenation a b) s ↔ Split (Language a) (Spelled l (Accepts b)) s) (sym shared)
-      (iff-trans (spelled-same (a .alphabet) (Accepts (concatenation a b)) (Split (Accepts a) (Accepts b)) (concatenation-iff a b va vb) s) (spelled-split (a .alphabet) (Accepts a) (Accepts b) s))
+  concatenation-language s = subst (λ (l : List ℕ). Language (concatenation a b) s ↔ Concatenation (Language a) (Spelled l (Accepts b)) s) (sym shared)
+      (iff-trans (spelled-same (a .alphabet) (Accepts (concatenation a b)) (Concatenation (Accepts a) (Accepts b)) (concatenation-iff a b va vb) s) (spelled-split (a .alphabet) (Accepts a) (Accepts b) s))
 
   pub intersection-language : (s : List ℕ) → Language (intersection a b) s ↔ (Language a s × Language b s)
   unfolding intersection

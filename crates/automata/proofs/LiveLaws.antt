@@ -10,7 +10,7 @@ use mathlib.Core.Option.{Option, none, some}
 use native.Mathlib.Nat.{le-of-suc-le-suc, not-suc-le-zero}
 use native.Mathlib.Omega.{arith}
 use Rattle.automata.specs.Automaton.{Run, silent, spell, stay}
-use Rattle.automata.specs.Live.{Closed, Moves, PlainArc, byLetter, count, epsilonClosure, hit, in?, live, liveFrom, once, rounds, step, table}
+use Rattle.automata.specs.Live.{εClosed, Moves, PlainArc, byLetter, count, epsilonClosure, hit, in?, live, liveFrom, once, rounds, step, table}
 use Rattle.automata.proofs.ListLaws.{and-iff, any-iff, eqb-iff, or-iff, sameLetter-iff}
 use Rattle.automata.proofs.RunLaws.{joined}
 
@@ -50,7 +50,7 @@ hit-iff arcs α S j = simp (any-iff, and-iff, sameLetter-iff, eqb-iff) (
 )
 
 -- a run of empty moves does not leave a closed set
-pub closed-run : {arcs : List PlainArc} {i j : ℕ} (S : List Bool) → Closed arcs S → T (in? S i) → Run (Moves arcs) i [] j → T (in? S j)
+pub closed-run : {arcs : List PlainArc} {i j : ℕ} (S : List Bool) → εClosed arcs S → T (in? S i) → Run (Moves arcs) i [] j → T (in? S j)
 closed-run S cl t stay = t
 closed-run S cl t (silent m r) = closed-run S cl (cl _ _ t m) r
 
@@ -108,7 +108,7 @@ module _ (k : ℕ) (arcs : List PlainArc) (within : (a : PlainArc) → List·Mem
       (λ p. let q = rounds-from n S (p .0) h (p .1) in (q .0, q .1, joined (q .2) (silent (p .2) stay)))
       ((once-iff (rounds k arcs n S) j (length-rounds n S h)) .0 t)
 
-  pub epsilonClosure-closed : (S : List Bool) → length S ≡ k → Closed arcs (epsilonClosure k arcs S)
+  pub epsilonClosure-closed : (S : List Bool) → length S ≡ k → εClosed arcs (epsilonClosure k arcs S)
   unfolding epsilonClosure
   epsilonClosure-closed S h i j t m = rw (epsilonClosure-stable S h) at ((once-iff (epsilonClosure k arcs S) j (length-rounds k S h)) .1 (inr (i, t, m)))
 
@@ -116,7 +116,7 @@ module _ (k : ℕ) (arcs : List PlainArc) (within : (a : PlainArc) → List·Mem
   unfolding step
   length-step α S = length-table k _
 
-  pub live-complete : {i j : ℕ} {w : List ℕ} (S : List Bool) → Closed arcs S → T (in? S i) → Run (Moves arcs) i w j → T (in? (liveFrom k arcs S w) j)
+  pub live-complete : {i j : ℕ} {w : List ℕ} (S : List Bool) → εClosed arcs S → T (in? S i) → Run (Moves arcs) i w j → T (in? (liveFrom k arcs S w) j)
   unfolding liveFrom byLetter
   live-complete S cl t stay = t
   live-complete S cl t (silent m r) = live-complete S cl (cl _ _ t m) r
@@ -182,7 +182,7 @@ module _ (k : ℕ) (arcs : List PlainArc) (within : (a : PlainArc) → List·Mem
     λ p. (epsilonClosure-iff (step k arcs (some a) S) j (length-step (some a) S)) .1 (p .1, (step-iff (some a) S (p .1)) .1 (p .0, p .2, p .3), p .4),
   )
 
-  pub byLetter-closed : (S : List Bool) (a : ℕ) → Closed arcs (byLetter k arcs S a)
+  pub byLetter-closed : (S : List Bool) (a : ℕ) → εClosed arcs (byLetter k arcs S a)
   unfolding byLetter
   byLetter-closed S a = epsilonClosure-closed (step k arcs (some a) S) (length-step (some a) S)
 

@@ -9,7 +9,7 @@ use mathlib.Core.List.{List, List·Memᴰ, List·Memᴰ·cases-cons, List·Mem�
 use mathlib.Core.Option.{Option, Option·some-injective, none, some}
 use native.Mathlib.Omega.{arith}
 use Rattle.automata.specs.Automaton.{Accepts, Automaton, Configuration, Produces, Run, start}
-use Rattle.automata.specs.Counting.{Apart, Counts}
+use Rattle.automata.specs.Counting.{Apart, Exactly}
 use Rattle.automata.specs.Live.{count, in?, live}
 use Rattle.automata.specs.Unfolding.{accepted, acceptedBytes, configurations, liveCount, liveSet, plainArcs, spelledOr}
 use Rattle.automata.specs.Words.{Language, LiveAfter, Spelled, spelling}
@@ -60,7 +60,7 @@ picked-length (false ∷ S) (c ∷ l) h = picked-length S l (omega arith)
 
 -- THE LAW. The members of the live set of the unfolded automaton count the ends of the runs
 pub live-counts : (b : Automaton) (L : ℕ) → length (configurations b L) ≤ L → (w : List ℕ)
-    → Counts (λ (c : Configuration). Run (Produces b) (start b) w c) (count (liveSet b L w))
+    → Exactly (λ (c : Configuration). Run (Produces b) (start b) w c) (count (liveSet b L w))
 unfolding liveSet
 live-counts b L fits w = record {
   list = picked S all;
@@ -105,11 +105,11 @@ module _ (x : Automaton) (apart : Apart (x .alphabet)) (L : ℕ) (fits : length 
   acceptedBytes-iff s = spelled-iff (accepted x L) (Accepts x) (accepted-iff x L fits) s
 
   -- and the number live is that of the configurations that runs spelling it end in
-  pub liveCount-counts : (s : List ℕ) → Counts (LiveAfter x s) (liveCount x L s)
+  pub liveCount-counts : (s : List ℕ) → Exactly (LiveAfter x s) (liveCount x L s)
   unfolding liveCount
   liveCount-counts s = go (spelling (x .alphabet) s) refl
     where
-      go : (o : Option (List ℕ)) → spelling (x .alphabet) s ≡ o → Counts (LiveAfter x s) (spelledOr 0 (λ w. count (liveSet x L w)) o)
+      go : (o : Option (List ℕ)) → spelling (x .alphabet) s ≡ o → Exactly (LiveAfter x s) (spelledOr 0 (λ w. count (liveSet x L w)) o)
       go none e = record {
         list = [];
         apart = tt;

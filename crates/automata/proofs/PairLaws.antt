@@ -9,7 +9,7 @@ use mathlib.Core.List.{List, [], _∷_}
 use native.Mathlib.Decide.{decLt}
 use native.Mathlib.Omega.{arith}
 use Rattle.automata.specs.Automaton.{Automaton, letters}
-use Rattle.automata.specs.Counting.{Counts, MoreThan}
+use Rattle.automata.specs.Counting.{Exactly, MoreThan}
 use Rattle.automata.specs.Live.{live, liveFrom}
 use Rattle.automata.specs.Pairs.{Pair, SomePair, onward, pairOf, pairs, samePair, shown}
 use Rattle.automata.specs.Search.{Entry, leads}
@@ -42,7 +42,7 @@ module _ (x y : Automaton) (L : ℕ) where
   )
 
   -- within the limit the search meets each pair of a word once
-  pub pairs-count : (P : ℕ) → length (pairs x y L P) ≤ P → Counts (SomePair x y L) (length (pairs x y L P))
+  pub pairs-count : (P : ℕ) → length (pairs x y L P) ≤ P → Exactly (SomePair x y L) (length (pairs x y L P))
   unfolding pairs
   pairs-count P h = counts-same led-some (met-counts samePair samePair-iff (onward x y L) (letters x) (pairOf x y L []) P h)
 

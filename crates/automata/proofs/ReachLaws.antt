@@ -8,7 +8,7 @@ use mathlib.Core.Option.{Option, none, some}
 use native.Mathlib.Decide.{decLt}
 use native.Mathlib.Omega.{arith}
 use Rattle.automata.specs.Automaton.{Automaton, Configuration, Produces, Reachable, Run, silent, spell, start, stay}
-use Rattle.automata.specs.Counting.{Counts, MoreThan}
+use Rattle.automata.specs.Counting.{Exactly, MoreThan}
 use Rattle.automata.specs.Exploration.{Reach, first, later}
 use Rattle.automata.specs.Performing.{Move, successors}
 use Rattle.automata.specs.Unfolding.{configurations, sameConfiguration, targetsOf}
@@ -41,7 +41,7 @@ module _ (x : Automaton) where
   reach-iff c = (reach-run, λ r. run-reach (first (List·Memᴰ·head refl)) (r .run))
 
   -- within the limit each configuration that a run reaches has one number
-  pub configurations-count : (L : ℕ) → length (configurations x L) ≤ L → Counts (Reachable x) (length (configurations x L))
+  pub configurations-count : (L : ℕ) → length (configurations x L) ≤ L → Exactly (Reachable x) (length (configurations x L))
   unfolding configurations
   configurations-count L h = counts-same reach-iff (walk-counts sameConfiguration sameConfiguration-iff (targetsOf x) (start x ∷ []) (λ y m. absurd (List·Memᴰ·not-nil m), tt) L h)
 

@@ -11,7 +11,7 @@ use mathlib.Core.Option.{Option, Option·some-injective, none, some}
 use native.Mathlib.Decide.{decLt}
 use native.Mathlib.Nat.{le-of-suc-le-suc, not-suc-le-zero}
 use native.Mathlib.Omega.{arith}
-use Rattle.automata.specs.Counting.{Counts, MoreThan}
+use Rattle.automata.specs.Counting.{Exactly, MoreThan}
 use Rattle.automata.specs.Exploration.{Reach, first, later}
 use Rattle.automata.specs.Lists.{Each, countFrom}
 use Rattle.automata.specs.Search.{Entry, Over, entries, firstOf, leads, met, nextEntries, nexts, origin, sameEntry, thisOr}
@@ -161,7 +161,7 @@ module _ {Q : Type 0} (same : Q → Q → Bool) (eq : (p q : Q) → T (same p q)
   reached q = (reach-led, λ l. rw (← (l .leads-there)) (led-reach q₀ (l .word) (l .over) (first (List·Memᴰ·head refl))))
 
   -- the count of what words lead to, whatever their length
-  pub met-counts : (L : ℕ) → length (met same δ a q₀ L) ≤ L → Counts Led (length (met same δ a q₀ L))
+  pub met-counts : (L : ℕ) → length (met same δ a q₀ L) ≤ L → Exactly Led (length (met same δ a q₀ L))
   unfolding met
   met-counts L h = counts-same reached (walk-counts same eq (nexts δ a) (q₀ ∷ []) (λ y m. absurd (List·Memᴰ·not-nil m), tt) L h)
 

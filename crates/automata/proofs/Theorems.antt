@@ -10,10 +10,11 @@ use mathlib.Core.List.{List, List·Memᴰ}
 use mathlib.Core.Option.{Option, some}
 use native.Mathlib.Omega.{arith}
 use Rattle.automata.specs.Automaton.{Automaton, Configuration, DoesAll, Op, Produces, Reachable, Run, WellFormed, letters, start}
-use Rattle.automata.specs.Counting.{Apart, Counts, MoreThan}
+use Rattle.automata.specs.Counting.{Apart, Exactly, MoreThan}
 use Rattle.automata.specs.Examples.{Holds, Row, rows}
 use Rattle.automata.specs.Exploration.{Distinct, Reach, known}
-use Rattle.automata.specs.Joins.{Split, Star, closure, concatenation, intersection, union}
+use Rattle.automata.specs.Joins.{closure, concatenation, intersection, union}
+use Rattle.automata.specs.Languages.{Concatenation, Intersection, Star, Union}
 use Rattle.automata.specs.Live.{count, in?}
 use Rattle.automata.specs.Pairs.{Right, SomePair, pairOf, pairs, verdict}
 use Rattle.automata.specs.Performing.{perform, successors}
@@ -49,7 +50,7 @@ module _ {X : Type 0} (same : X → X → Bool) (eq : (x y : X) → T (same x y)
   exploring n = (known-distinct same next start d n, λ x. known-sound same next start n)
 
   -- When the walk has ended within L, exactly what can be reached is numbered; else there is more than that to reach.
-  pub exploring-counts : (L : ℕ) → length (known same next start L) ≤ L → Counts (Reach next start) (length (known same next start L))
+  pub exploring-counts : (L : ℕ) → length (known same next start L) ≤ L → Exactly (Reach next start) (length (known same next start L))
   exploring-counts = walk-counts same eq next start d
 
   pub exploring-more : (L : ℕ) → L < length (known same next start L) → MoreThan (Reach next start) L
@@ -67,15 +68,15 @@ searching same δ a q eq n fits = (
 
 -- ---- counting (CountingLaws)
 -- A number of things is one number, and exactly n things are not more than n.
-pub counting-unique : {A : Type 0} {P : A → Type 0} {m n : ℕ} → Counts P m → Counts P n → m ≡ n
+pub counting-unique : {A : Type 0} {P : A → Type 0} {m n : ℕ} → Exactly P m → Exactly P n → m ≡ n
 counting-unique = counts-unique
 
-pub counting-exclusive : {A : Type 0} {P : A → Type 0} {n : ℕ} → Counts P n → ¬ MoreThan P n
+pub counting-exclusive : {A : Type 0} {P : A → Type 0} {n : ℕ} → Exactly P n → ¬ MoreThan P n
 counting-exclusive c = not-more c (omega arith)
 
 -- ---- an automaton whose walk ends within L
 -- Its configurations are those that runs reach; beyond L there are more (ReachLaws: refusal 21).
-pub reaching : (x : Automaton) (L : ℕ) → length (configurations x L) ≤ L → Counts (Reachable x) (length (configurations x L))
+pub reaching : (x : Automaton) (L : ℕ) → length (configurations x L) ≤ L → Exactly (Reachable x) (length (configurations x L))
 reaching = configurations-count
 
 pub reaching-more : (x : Automaton) (L : ℕ) → (L < length (configurations x L)) ↔ MoreThan (Reachable x) L
@@ -88,11 +89,11 @@ module _ (x : Automaton) (L : ℕ) (fits : length (configurations x L) ≤ L) wh
   living = live-configuration x L fits
 
   -- The number live is that of the configurations that runs spelling the word end in (MembershipLaws).
-  pub living-counts : (w : List ℕ) → Counts (λ (c : Configuration). Run (Produces x) (start x) w c) (count (liveSet x L w))
+  pub living-counts : (w : List ℕ) → Exactly (λ (c : Configuration). Run (Produces x) (start x) w c) (count (liveSet x L w))
   living-counts = live-counts x L fits
 
   -- A word of bytes is computed to be accepted just if it is in the language; the number live is that of its live set.
-  pub membership : Apart (x .alphabet) → (s : List ℕ) → (T (acceptedBytes x L s) ↔ Language x s) × Counts (LiveAfter x s) (liveCount x L s)
+  pub membership : Apart (x .alphabet) → (s : List ℕ) → (T (acceptedBytes x L s) ↔ Language x s) × Exactly (LiveAfter x s) (liveCount x L s)
   membership apart s = (acceptedBytes-iff x apart L fits s, liveCount-counts x apart L fits s)
 
   -- The unfolded automaton has exactly the same words (UnfoldedLaws, LanguageLaws).
@@ -101,13 +102,13 @@ module _ (x : Automaton) (L : ℕ) (fits : length (configurations x L) ≤ L) wh
 
 -- ---- the joins, of automata with one alphabet, for words of every length (LanguageLaws)
 module _ (a b : Automaton) (va : WellFormed a) (vb : WellFormed b) (shared : b .alphabet ≡ a .alphabet) where
-  pub uniting : (s : List ℕ) → Language (union a b) s ↔ (Language a s ⊎ Language b s)
+  pub uniting : (s : List ℕ) → Language (union a b) s ↔ Union (Language a) (Language b) s
   uniting = union-language a b va vb shared
 
-  pub concatenating : (s : List ℕ) → Language (concatenation a b) s ↔ Split (Language a) (Language b) s
+  pub concatenating : (s : List ℕ) → Language (concatenation a b) s ↔ Concatenation (Language a) (Language b) s
   concatenating = concatenation-language a b va vb shared
 
-  pub intersecting : (s : List ℕ) → Language (intersection a b) s ↔ (Language a s × Language b s)
+  pub intersecting : (s : List ℕ) → Language (intersection a b) s ↔ Intersection (Language a) (Language b) s
   intersecting = intersection-language a b va vb shared
 
 pub closing : (a : Automaton) → WellFormed a → (s : List ℕ) → Language (closure a) s ↔ Star (Language a) s

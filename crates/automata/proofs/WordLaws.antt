@@ -9,7 +9,7 @@ use mathlib.Core.Option.{Option·some-injective, bind-eq-some-iff, map-eq-some-i
 use native.Mathlib.Omega.{arith}
 use Rattle.automata.specs.Counting.{Apart}
 use Rattle.automata.specs.Exploration.{first}
-use Rattle.automata.specs.Joins.{Split, Star, more, nothing}
+use Rattle.automata.specs.Languages.{Concatenation, Star, more, nothing}
 use Rattle.automata.specs.Words.{Spelled, Spells, letterWith, spelling}
 use Rattle.automata.proofs.ListLaws.{at-mem, eqb-iff, getElem?-lt, only-iff}
 use Rattle.automata.proofs.NumberLaws.{apart-distinct, number-at, number-found, one-number}
@@ -94,7 +94,7 @@ module _ (alphabet : List ℕ) where
       let r = parted s v w (p .1) in
       record { front = byte ∷ r .front; back = r .back; whole = ap (λ (l : List ℕ). byte ∷ l) (r .whole); spells-front = (p .0, r .spells-front); spells-back = r .spells-back }
 
-  pub spelled-split : (P Q : List ℕ → Type 0) (s : List ℕ) → Spelled alphabet (Split P Q) s ↔ Split (Spelled alphabet P) (Spelled alphabet Q) s
+  pub spelled-split : (P Q : List ℕ → Type 0) (s : List ℕ) → Spelled alphabet (Concatenation P Q) s ↔ Concatenation (Spelled alphabet P) (Spelled alphabet Q) s
   spelled-split P Q s = (
     λ t. let h = t .holds in
         let r = parted s (h .left) (h .right) (rw (h .whole) at (t .spells)) in

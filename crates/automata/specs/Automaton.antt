@@ -1,5 +1,5 @@
 -- Automaton: finite-state registered automata, and what it means that one accepts a word.
--- Renders document 003, sections 3.1 and 3.2 (automaton, configuration, produces, run, accepts), with document 01's
+-- Renders document 003, section 3.1 (automaton, configuration, produces, run, accepts), with document 01's
 -- reading: a run needs no final state at its end, and no operation of a well-formed automaton changes register 0. No algorithm stands
 -- here.
 use mathlib.Core.Path.{_≡_}

@@ -11,7 +11,7 @@ Apart [] = Unit {0}
 Apart (x ∷ l) = (¬ List·Memᴰ x l) × Apart l
 
 -- exactly n things are P
-pub record Counts {A : Type 0} (P : A → Type 0) (n : ℕ) : Type 0 where
+pub record Exactly {A : Type 0} (P : A → Type 0) (n : ℕ) : Type 0 where
   pub list : List A
   pub apart : Apart list
   pub each : (x : A) → List·Memᴰ x list ↔ P x

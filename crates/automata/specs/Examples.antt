@@ -6,7 +6,7 @@ use mathlib.Core.List.{List, [], _∷_}
 use mathlib.Core.Option.{some}
 use mathlib.Core.Bool.{true, false}
 use lib.ListN.{length}
-use Rattle.automata.specs.Counting.{Counts}
+use Rattle.automata.specs.Counting.{Exactly}
 use Rattle.automata.specs.Automaton.{Op, reads, writes, Arc, Automaton, Reachable}
 use Rattle.automata.specs.Words.{Language}
 use Rattle.automata.specs.Unfolding.{plainArcs, readZero}
@@ -59,7 +59,7 @@ pub data Row : Type 0 where
 abbrev pub Holds : ℕ → Row → Type 0
 Holds L (accepts x w) = Language x w
 Holds L (rejects x w) = ¬ Language x w
-Holds L (reaches x n) = Counts (Reachable x) n
+Holds L (reaches x n) = Exactly (Reachable x) n
 Holds L (unfolds-to x n) = length (plainArcs x L) ≡ n
 
 unfoldable pub rows : List Row

@@ -8,10 +8,12 @@ use lib.ListN.{getElem?}
 use lib.Dec.{T}
 use Rattle.automata.specs.Lists.{any}
 
+-- the list, with x at its end unless the list has it already
 abbrev pub unlessHad : {X : Type 0} → Bool → List X → X → List X
 unlessHad true l x = l
 unlessHad false l x = l ++ x ∷ []
 
+-- 0 where the first element is the one that is looked for, else one more than its number among the others
 abbrev pub firstOr : Bool → ℕ → ℕ
 firstOr true n = 0
 firstOr false n = suc n
@@ -42,6 +44,7 @@ module _ {X : Type 0} (same : X → X → Bool) where
   Distinct [] = Unit {0}
   Distinct (x ∷ l) = ((y : X) → List·Memᴰ y l → ¬ T (same y x)) × Distinct l
 
+-- what the element leads to, where there is one
 abbrev pub targets : {X : Type 0} → (X → List X) → Option X → List X
 targets next none = []
 targets next (some x) = next x

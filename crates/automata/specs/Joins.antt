@@ -1,6 +1,5 @@
--- Joins: union, concatenation, intersection and closure, as document 01, 'Joining books', numbers states, registers and arcs;
--- and the language that each is to have. Closure departs from document 003, which makes the old initial state final.
-use mathlib.Core.Path.{_≡_}
+-- Joins: union, concatenation, intersection and closure of automata (document 003, section 3.2), as document 01, 'Joining books', numbers
+-- states, registers and arcs. Closure departs from document 003, which makes the old initial state final.
 use Prim.Native.Nat.{ℕ, zero, suc, _+_, _*_, _-_, max}
 use mathlib.Core.List.{List, [], _∷_, _++_, map, flatMap}
 use mathlib.Core.Option.{Option, none, some}
@@ -60,14 +59,6 @@ concatenation a b = record {
   finals = replicate (states a) false ++ b .finals;
   arcs = a .arcs ++ (map (λ s. emptyMove s (states a)) (finalStates 0 (a .finals)) ++ map (movedArc (states a) (a .registers - 1)) (b .arcs));
 }
-
--- w is a word of P and then a word of Q
-pub record Split (P Q : List ℕ → Type 0) (w : List ℕ) : Type 0 where
-  pub left : List ℕ
-  pub right : List ℕ
-  pub whole : w ≡ left ++ right
-  pub first : P left
-  pub second : Q right
 
 -- ---- intersection: state i of a with state j of b is i * states b + j
 -- the same letter, and not the empty move
@@ -138,8 +129,3 @@ closure a = record {
   finals = true ∷ a .finals;
   arcs = emptyMove 0 1 ∷ (map (moved 1) (a .arcs) ++ map (λ s. arcFrom (1 + s) none 1 (clearing (a .registers))) (finalStates 0 (a .finals)));
 }
-
--- w is a finite sequence of words of P, none at all included
-pub data Star (P : List ℕ → Type 0) : List ℕ → Type 0 where
-  nothing : Star P []
-  more : {w : List ℕ} (v r : List ℕ) → w ≡ v ++ r → P v → Star P r → Star P w

@@ -8,5 +8,6 @@ pub mod Live
 pub mod Unfolding
 pub mod Search
 pub mod Pairs
+pub mod Languages
 pub mod Joins
 pub mod Examples

@@ -27,8 +27,8 @@ abbrev pub in? : List Bool → ℕ → Bool
 in? S j = getD S j false
 
 -- no empty move leaves S
-abbrev pub Closed : List PlainArc → List Bool → Type 0
-Closed arcs S = (i j : ℕ) → T (in? S i) → Moves arcs i none j → T (in? S j)
+abbrev pub εClosed : List PlainArc → List Bool → Type 0
+εClosed arcs S = (i j : ℕ) → T (in? S i) → Moves arcs i none j → T (in? S j)
 
 -- how many members S has
 unfoldable pub count : List Bool → ℕ

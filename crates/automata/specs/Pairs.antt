@@ -10,7 +10,7 @@ use mathlib.Core.Bool.{Bool, _&&_, not, Bool·beq, cond}
 use lib.ListN.{length}
 use Rattle.automata.specs.Lists.{sameBy}
 use Rattle.automata.specs.Automaton.{Automaton, letters, Accepts}
-use Rattle.automata.specs.Counting.{Counts}
+use Rattle.automata.specs.Counting.{Exactly}
 use Rattle.automata.specs.Live.{byLetter, meets}
 use Rattle.automata.specs.Unfolding.{configurations, plainArcs, finalSet, liveSet}
 use Rattle.automata.specs.Search.{Over, Entry, met, entries, firstOf}
@@ -105,5 +105,5 @@ pub record Shows (x y : Automaton) (taker : ℕ) (v : List ℕ) : Type 0 where
 
 -- the number is that of the distinct pairs; told the same, every word of every length is accepted by both or by neither
 abbrev pub Right : Automaton → Automaton → ℕ → Verdict → Type 0
-Right x y L (same n) = Counts (SomePair x y L) n × ((w : List ℕ) → Accepts x w ↔ Accepts y w)
-Right x y L (different n taker v) = Counts (SomePair x y L) n × Shows x y taker v
+Right x y L (same n) = Exactly (SomePair x y L) n × ((w : List ℕ) → Accepts x w ↔ Accepts y w)
+Right x y L (different n taker v) = Exactly (SomePair x y L) n × Shows x y taker v

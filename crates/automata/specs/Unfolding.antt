@@ -57,7 +57,8 @@ unfoldable pub accepted : Automaton → ℕ → List ℕ → Bool
 unfolding liveSet finalSet meets
 accepted x n w = meets (liveSet x n w) (finalSet x (configurations x n))
 
--- a word of bytes: one that has a byte that is no letter is not accepted and leaves nothing live
+-- what is said of a word of bytes: f of the letters that it spells, and `none-spelled` where it has a byte that is no letter; such a
+-- word is not accepted and leaves nothing live
 abbrev pub spelledOr : {A : Type 0} → A → (List ℕ → A) → Option (List ℕ) → A
 spelledOr none-spelled f none = none-spelled
 spelledOr none-spelled f (some w) = f w

@@ -16,7 +16,7 @@ use Rattle.format.specs.Refusals.{FirstHolds, faultOf, unlessRefused}
 use Rattle.file_laws.proofs.Laws.{NoneHolds, Outcome, at-least, first-exactly, first-some, no-fault, none-first, refused-or-not, same-letters, valid-automaton}
 use Rattle.compare.specs.Comparing.{answerAt, bufferOf, comparedAt, comparisonOf, tests, told}
 use Rattle.compare.specs.Compares.{Compares, Shown, ShownBy}
-use Rattle.compare.specs.Promised.{OneRule, Premises, Promised, SameEnds, conditions}
+use Rattle.compare.specs.Promised.{Equivalent, Premises, Promised, SameEnds, conditions}
 use Rattle.compare.specs.declared.Comparison.{Comparison}
 use Rattle.compare.specs.declared.Comparison.the-variants.{Refused}
 use Rattle.compare.proofs.Refusals.{tests-decide}
@@ -81,7 +81,7 @@ module _ (first second : List ℕ) (words buffer : ℕ) (p : Premises first seco
       (at-least 512 (length (pairs x y 256 512)) (λ h. p .few-pairs (comparing-more x y 256 512 .0 h)))
 
 -- one word that exactly one accepts, and the two aren't one rule
-not-one-rule : (x y : Automaton) (taker : ℕ) (word : List ℕ) → Shown x y taker word → ¬ OneRule x y
+not-one-rule : (x y : Automaton) (taker : ℕ) (word : List ℕ) → Shown x y taker word → ¬ Equivalent x y
 not-one-rule x y taker word s one = ⊎-elim (λ h. h .2 (one word .0 (h .1))) (λ h. h .1 (one word .1 (h .2))) (s .by)
 
 -- ---- the whole answer
@@ -131,7 +131,7 @@ module _ (first second : List ℕ) (words : ℕ) (old new : List ℕ) where
     whole = omega arith;
   }
     where
-      one : OneRule x₁ x₂
+      one : Equivalent x₁ x₂
       one = same-language x₁ x₂ (sym (p .same-letters)) (r .1)
   answered (different n k v) r p taker word e s = record {
     answers = (λ _. p, λ _. refl);

@@ -61,7 +61,7 @@ bufferOf (Refused n b) word old = old
 -- different; the number of pairs; the automaton that accepts the shown word and the word's length, each 0 where none is shown
 pub record Told : Type 0 where
   pub number : ℕ
-  pub automaton : ℕ
+  pub at-fault : ℕ
   pub same : Bool
   pub different : Bool
   pub pairs : ℕ
@@ -69,6 +69,6 @@ pub record Told : Type 0 where
   pub size : ℕ
 
 abbrev pub told : Comparison → Told
-told (Same n) = record { number = 0; automaton = 0; same = true; different = false; pairs = n; taker = 0; size = 0 }
-told (Different n taker size) = record { number = 0; automaton = 0; same = false; different = true; pairs = n; taker = taker; size = size }
-told (Refused n b) = record { number = n; automaton = b; same = false; different = false; pairs = 0; taker = 0; size = 0 }
+told (Same n) = record { number = 0; at-fault = 0; same = true; different = false; pairs = n; taker = 0; size = 0 }
+told (Different n taker size) = record { number = 0; at-fault = 0; same = false; different = true; pairs = n; taker = taker; size = size }
+told (Refused n b) = record { number = n; at-fault = b; same = false; different = false; pairs = 0; taker = 0; size = 0 }

@@ -8,7 +8,7 @@ use Prim.Native.Nat.{ℕ, _≤_, _<_}
 use lib.Dec.{T}
 use lib.ListN.{drop, length, take}
 use Rattle.automata.specs.Automaton.{Automaton, Configuration, Produces, Reachable, Run, start}
-use Rattle.automata.specs.Counting.{Counts, MoreThan}
+use Rattle.automata.specs.Counting.{Exactly, MoreThan}
 use Rattle.automata.specs.Pairs.{SomePair, pairOf}
 use Rattle.automata.specs.Unfolding.{plainArcs}
 use Rattle.automata.specs.Words.{Language}
@@ -51,8 +51,8 @@ pub record Premises (first second : List ℕ) (words buffer : ℕ) : Type 0 wher
   pub few-pairs : ¬ MoreThan (SomePair (automatonOf first) (automatonOf second) 256) 512
 
 -- every word of bytes, of every length, is accepted by both or by neither; a word with a byte that is no letter is accepted by neither
-abbrev pub OneRule : Automaton → Automaton → Type 0
-OneRule x y = (word : List ℕ) → Language x word ↔ Language y word
+abbrev pub Equivalent : Automaton → Automaton → Type 0
+Equivalent x y = (word : List ℕ) → Language x word ↔ Language y word
 
 -- the runs that spell v and those that spell w end in the same configurations
 abbrev pub SameEnds : Automaton → (v w : List ℕ) → Type 0
@@ -63,17 +63,17 @@ pub record Promised (first second : List ℕ) (words : ℕ) (old new : List ℕ)
   -- nothing is refused just under the premises
   pub answers : (t .number ≡ 0) ↔ Premises first second words (length old)
   -- told the same just if the two are one rule, else told different
-  pub same : T (t .same) ↔ (Premises first second words (length old) × OneRule (automatonOf first) (automatonOf second))
-  pub different : T (t .different) ↔ (Premises first second words (length old) × ¬ OneRule (automatonOf first) (automatonOf second))
+  pub same : T (t .same) ↔ (Premises first second words (length old) × Equivalent (automatonOf first) (automatonOf second))
+  pub different : T (t .different) ↔ (Premises first second words (length old) × ¬ Equivalent (automatonOf first) (automatonOf second))
   -- told different, exactly the named automaton accepts the word at the buffer's front, and no word that exactly one accepts is shorter
   pub shows : T (t .different) → Shown (automatonOf first) (automatonOf second) (t .taker) (take (t .size) new)
   -- told either, the number is that of the distinct pairs of live sets over all words of the letters
-  pub counts : Premises first second words (length old) → Counts (SomePair (automatonOf first) (automatonOf second) 256) (t .pairs)
+  pub counts : Premises first second words (length old) → Exactly (SomePair (automatonOf first) (automatonOf second) 256) (t .pairs)
   -- two words have one pair just if runs that spell them end in the same configurations, in each of the two automata
   pub paired : Premises first second words (length old) → (v w : List ℕ)
       → (pairOf (automatonOf first) (automatonOf second) 256 v ≡ pairOf (automatonOf first) (automatonOf second) 256 w) ↔ (SameEnds (automatonOf first) v w × SameEnds (automatonOf second) v w)
   -- each refusal has its number and its automaton at fault just where its condition is the first that holds; where none holds, both are 0
-  pub refuses : (n b : ℕ) → ((t .number ≡ n) × (t .automaton ≡ b)) ↔ FirstHolds (conditions first second words (length old)) n b
+  pub refuses : (n b : ℕ) → ((t .number ≡ n) × (t .at-fault ≡ b)) ↔ FirstHolds (conditions first second words (length old)) n b
   -- the bytes behind the shown word are as they were lent; where none is shown, all are, its size being 0
   pub behind : drop (t .size) new ≡ drop (t .size) old
   pub none-shown : ¬ T (t .different) → t .size ≡ 0

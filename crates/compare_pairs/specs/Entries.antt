@@ -13,7 +13,7 @@ use Rattle.automata.specs.Unfolding.{configurations, plainArcs}
 use Rattle.automata.specs.Search.{Entry}
 use Rattle.automata.specs.Pairs.{Pair, samePair}
 use Rattle.word_fields.specs.Fields.{field}
-use Rattle.word_sets.specs.Sets.{view, Settled}
+use Rattle.word_sets.specs.Sets.{view, εClosedSet}
 use Rattle.word_sets.specs.Rows.{row}
 use Rattle.compare_pairs.specs.Map.{parents}
 
@@ -59,8 +59,8 @@ pub record Child (w : List ℕ) (es : List (Entry Pair)) (i : ℕ) (v : List ℕ
 pub record Row (s t : Side) (w : List ℕ) (es : List (Entry Pair)) (i : ℕ) (e : Entry Pair) : Type 0 where
   pub left : view (s .size) (row w 0 (2 * i)) ≡ e .state .left
   pub right : view (t .size) (row w 0 (2 * i + 1)) ≡ e .state .right
-  pub settled₁ : Settled (s .size) (s .arcs) (row w 0 (2 * i))
-  pub settled₂ : Settled (t .size) (t .arcs) (row w 0 (2 * i + 1))
+  pub settled₁ : εClosedSet (s .size) (s .arcs) (row w 0 (2 * i))
+  pub settled₂ : εClosedSet (t .size) (t .arcs) (row w 0 (2 * i + 1))
   pub spelled : ((i ≡ 0) × (e .word ≡ [])) ⊎ Child w es i (e .word)
 
 -- the first n pairs in the words are the entries

@@ -12,7 +12,7 @@ use Rattle.automata.specs.Pairs.{Pair}
 use Rattle.automata.specs.Search.{Entry}
 use Rattle.word_fields.specs.Frame.{Kept}
 use Rattle.word_fields.proofs.Laws.{kept-then, kept-wider}
-use Rattle.word_sets.specs.Sets.{Settled, view}
+use Rattle.word_sets.specs.Sets.{εClosedSet, view}
 use Rattle.word_sets.specs.Rows.{row}
 use Rattle.word_sets.proofs.Laws.{row-below}
 use Rattle.table_sets.specs.Stepping.{FromList, Held, Starts, setOf}
@@ -25,14 +25,14 @@ use Rattle.compare_search.proofs.Frames.{behind-same, held-kept, set-sa
 -- what a step from the set u tells of the set x that it leaves for letter l
 abbrev pub Stepped : (count a : ℕ) (From : ℕ → ℕ → ℕ → Type 0) (u : List ℕ) (sets : ℕ → List ℕ) → Type 0
 Stepped count a From u sets =
-    (letters : ℕ) (arcs : List PlainArc) → Held count letters arcs From → letters ≤ 64 → Settled count arcs u → (l : ℕ) → l < letters
-    → (view count (sets l) ≡ byLetter count arcs (view count u) l) × Settled count arcs (sets l)
+    (letters : ℕ) (arcs : List PlainArc) → Held count letters arcs From → letters ≤ 64 → εClosedSet count arcs u → (l : ℕ) → l < letters
+    → (view count (sets l) ≡ byLetter count arcs (view count u) l) × εClosedSet count arcs (sets l)
 
 -- of a side with as many configurations, from the live set S
-behind : (s : Side) (S : List Bool) (l : ℕ) (x : List ℕ) {count : ℕ} {u v : List ℕ} → s .size ≡ count → u ≡ v → view (s .size) v ≡ S → Settled (s .size) (s .arcs) v
-    → (Settled count (s .arcs) u → (view count x ≡ byLetter count (s .arcs) (view count u) l) × Settled count (s .arcs) x) → Behind s S l x
+behind : (s : Side) (S : List Bool) (l : ℕ) (x : List ℕ) {count : ℕ} {u v : List ℕ} → s .size ≡ count → u ≡ v → view (s .size) v ≡ S → εClosedSet (s .size) (s .arcs) v
+    → (εClosedSet count (s .arcs) u → (view count x ≡ byLetter count (s .arcs) (view count u) l) × εClosedSet count (s .arcs) x) → Behind s S l x
 behind s S l x {count} {u} e eu ev wv f =
-    let g = subst (λ (k : ℕ). Settled k (s .arcs) u → (view k x ≡ byLetter k (s .arcs) (view k u) l) × Settled k (s .arcs) x) (sym e) f (subst (λ (y : List ℕ). Settled (s .size) (s .arcs) y) (sym eu) wv) in
+    let g = subst (λ (k : ℕ). εClosedSet k (s .arcs) u → (view k x ≡ byLetter k (s .arcs) (view k u) l) × εClosedSet k (s .arcs) x) (sym e) f (subst (λ (y : List ℕ). εClosedSet (s .size) (s .arcs) y) (sym eu) wv) in
     (g .0 ∙ ap (λ (T : List Bool). byLetter (s .size) (s .arcs) T l) (ap (view (s .size)) eu ∙ ev), g .1)
 
 module _ {a count₁ plain₁ count₂ plain₂ : ℕ} {w w₁ w₂ u v : List ℕ} (i from met₁ met₂ : ℕ) (ready : Ready a w count₁ plain₁ count₂ plain₂)

@@ -13,7 +13,7 @@ use Rattle.automata.proofs.Laws.{getElem?-lt}
 use Rattle.word_fields.specs.Fields.{field}
 use Rattle.word_fields.specs.Frame.{Kept}
 use Rattle.word_fields.proofs.Laws.{chain-kept, field-same}
-use Rattle.word_sets.specs.Sets.{Settled, bit, view}
+use Rattle.word_sets.specs.Sets.{εClosedSet, bit, view}
 use Rattle.word_sets.specs.Rows.{row}
 use Rattle.word_sets.proofs.Laws.{row-above, row-below}
 use Rattle.table_sets.specs.Stepping.{FromList, Held, Room, Starts, setOf}
@@ -52,8 +52,8 @@ both-kept {s = s} {t} {count₁ = count₁} {count₂ = count₂} k r b =
       held₂ = held-kept (block-kept k (inl (omega arith))) (r .second) (b .held₂);
       start₁ = ap (view count₁) e ∙ b .start₁;
       start₂ = ap (view count₂) f ∙ b .start₂;
-      settled₁ = subst (λ (x : List ℕ). Settled count₁ (s .arcs) x) (sym e) (b .settled₁);
-      settled₂ = subst (λ (x : List ℕ). Settled count₂ (t .arcs) x) (sym f) (b .settled₂);
+      settled₁ = subst (λ (x : List ℕ). εClosedSet count₁ (s .arcs) x) (sym e) (b .settled₁);
+      settled₂ = subst (λ (x : List ℕ). εClosedSet count₂ (t .arcs) x) (sym f) (b .settled₂);
     }
 
 -- what the steps ask
@@ -73,7 +73,7 @@ pub set-above : {w w' : List ℕ} (acc met l : ℕ) → Kept 0 pairsEnd w w' →
 set-above {w} {w'} acc met l k h = set-same w w' acc met l (row-above acc l k (omega arith))
 
 pub behind-same : (s : Side) (S : List Bool) (l : ℕ) {u v : List ℕ} → v ≡ u → Behind s S l u → Behind s S l v
-behind-same s S l e b = (ap (view (s .size)) e ∙ b .0, subst (λ (x : List ℕ). Settled (s .size) (s .arcs) x) (sym e) (b .1))
+behind-same s S l e b = (ap (view (s .size)) e ∙ b .0, subst (λ (x : List ℕ). εClosedSet (s .size) (s .arcs) x) (sym e) (b .1))
 
 -- ---- the table
 module _ {b : ℕ} {w w' : List ℕ} (k : Kept pairsEnd b w w') where
@@ -112,8 +112,8 @@ module _ {b : ℕ} {w w' : List ℕ} (k : Kept pairsEnd b w w') where
         record {
           left = ap (view (s .size)) f ∙ r .left;
           right = ap (view (t .size)) g ∙ r .right;
-          settled₁ = subst (λ (x : List ℕ). Settled (s .size) (s .arcs) x) (sym f) (r .settled₁);
-          settled₂ = subst (λ (x : List ℕ). Settled (t .size) (t .arcs) x) (sym g) (r .settled₂);
+          settled₁ = subst (λ (x : List ℕ). εClosedSet (s .size) (s .arcs) x) (sym f) (r .settled₁);
+          settled₂ = subst (λ (x : List ℕ). εClosedSet (t .size) (t .arcs) x) (sym g) (r .settled₂);
           spelled = ⊎-elim (λ o. inl o) (λ c. inr (child-kept l c)) (r .spelled);
         };
   }

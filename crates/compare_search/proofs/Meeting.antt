@@ -16,7 +16,7 @@ use Rattle.automata.proofs.Laws.{add-cases, at-mem, bool-ext, getElem?-append, 
 use Rattle.word_fields.specs.Fields.{field}
 use Rattle.word_fields.specs.Frame.{Kept}
 use Rattle.word_fields.proofs.Laws.{kept-same}
-use Rattle.word_sets.specs.Sets.{Settled, Within, inSet, view}
+use Rattle.word_sets.specs.Sets.{εClosedSet, Within, inSet, view}
 use Rattle.word_sets.specs.Rows.{row}
 use Rattle.word_sets.proofs.Laws.{in-view}
 use Rattle.compare_pairs.specs.Map.{parents, pairsEnd}
@@ -71,7 +71,7 @@ same-members {n} s t ws wt e j =
     bool-ext (inSet s j) (inSet t j) (λ x. in-view n t j .0 (rw e at (in-view n s j .1 (ws j x, x))) .1) (λ x. in-view n s j .0 (rw (← e) at (in-view n t j .1 (wt j x, x))) .1)
 
 module _ (s t : Side) (w : List ℕ) (n : ℕ) (u v : List ℕ) (es : List (Entry Pair)) (x : Entry Pair) (h : Holds s t w n es)
-    (p : (view (s .size) u ≡ x .state .left) × Settled (s .size) (s .arcs) u) (q : (view (t .size) v ≡ x .state .right) × Settled (t .size) (t .arcs) v) where
+    (p : (view (s .size) u ≡ x .state .left) × εClosedSet (s .size) (s .arcs) u) (q : (view (t .size) v ≡ x .state .right) × εClosedSet (t .size) (t .arcs) v) where
   lacks-none : Lacking w n u v → ¬ T (has alike x es)
   lacks-none k c =
       let y = (has-iff alike x es) .0 c in
@@ -101,8 +101,8 @@ module _ (s t : Side) (w : List ℕ) (n : ℕ) (u v : List ℕ) (es : List (Entr
         new = record {
           left = ap (view (s .size)) (d .new .0) ∙ p .0;
           right = ap (view (t .size)) (d .new .1) ∙ q .0;
-          settled₁ = subst (λ (r : List ℕ). Settled (s .size) (s .arcs) r) (sym (d .new .0)) (p .1);
-          settled₂ = subst (λ (r : List ℕ). Settled (t .size) (t .arcs) r) (sym (d .new .1)) (q .1);
+          settled₁ = subst (λ (r : List ℕ). εClosedSet (s .size) (s .arcs) r) (sym (d .new .0)) (p .1);
+          settled₂ = subst (λ (r : List ℕ). εClosedSet (t .size) (t .arcs) r) (sym (d .new .1)) (q .1);
           spelled = inr (record {
             later = omega (arith, getElem?-lt es i stands, h .many);
             parent = e;
@@ -119,8 +119,8 @@ module _ (s t : Side) (w : List ℕ) (n : ℕ) (u v : List ℕ) (es : List (Entr
             record {
               left = ap (view (s .size)) (o .0) ∙ r .left;
               right = ap (view (t .size)) (o .1) ∙ r .right;
-              settled₁ = subst (λ (r : List ℕ). Settled (s .size) (s .arcs) r) (sym (o .0)) (r .settled₁);
-              settled₂ = subst (λ (r : List ℕ). Settled (t .size) (t .arcs) r) (sym (o .1)) (r .settled₂);
+              settled₁ = subst (λ (r : List ℕ). εClosedSet (s .size) (s .arcs) r) (sym (o .0)) (r .settled₁);
+              settled₂ = subst (λ (r : List ℕ). εClosedSet (t .size) (t .arcs) r) (sym (o .1)) (r .settled₂);
               spelled = ⊎-elim (λ b. inl b) (λ c. inr (record {
                 later = c .later;
                 parent = c .parent;

@@ -14,7 +14,7 @@ use Rattle.automata.specs.Search.{Entry, entries, nextEntries, origin, sameEntr
 use Rattle.automata.proofs.Laws.{getElem?-some, known-ended, known-long, none-some}
 use Rattle.word_fields.specs.Frame.{Kept}
 use Rattle.word_fields.proofs.Laws.{kept-same, kept-then}
-use Rattle.word_sets.specs.Sets.{Settled, view}
+use Rattle.word_sets.specs.Sets.{εClosedSet, view}
 use Rattle.word_sets.specs.Rows.{row}
 use Rattle.compare_pairs.specs.Map.{firstBlock, secondBlock}
 use Rattle.compare_pairs.specs.Entries.{Holds, Row, Side, alike, along, begin}
@@ -113,18 +113,18 @@ holds-start s t {w} {w'} {u} {v} b eu ev d = record { many = refl; each = go }
     start : Entry Pair
     start = origin (begin s t)
 
-    first : (view (s .size) u ≡ live (s .size) (s .arcs) []) × Settled (s .size) (s .arcs) u
+    first : (view (s .size) u ≡ live (s .size) (s .arcs) []) × εClosedSet (s .size) (s .arcs) u
     first = rw (b .size₁, eu) (b .start₁, b .settled₁)
 
-    second : (view (t .size) v ≡ live (t .size) (t .arcs) []) × Settled (t .size) (t .arcs) v
+    second : (view (t .size) v ≡ live (t .size) (t .arcs) []) × εClosedSet (t .size) (t .arcs) v
     second = rw (b .size₂, ev) (b .start₂, b .settled₂)
 
     own : Row s t w' (start ∷ []) 0 start
     own = record {
       left = ap (view (s .size)) (d .new .0) ∙ first .0;
       right = ap (view (t .size)) (d .new .1) ∙ second .0;
-      settled₁ = subst (λ (r : List ℕ). Settled (s .size) (s .arcs) r) (sym (d .new .0)) (first .1);
-      settled₂ = subst (λ (r : List ℕ). Settled (t .size) (t .arcs) r) (sym (d .new .1)) (second .1);
+      settled₁ = subst (λ (r : List ℕ). εClosedSet (s .size) (s .arcs) r) (sym (d .new .0)) (first .1);
+      settled₂ = subst (λ (r : List ℕ). εClosedSet (t .size) (t .arcs) r) (sym (d .new .1)) (second .1);
       spelled = inl (refl, refl);
     }
 

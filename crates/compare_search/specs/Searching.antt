@@ -8,7 +8,7 @@ use lib.ListN.{length}
 use Rattle.automata.specs.Live.{byLetter, live}
 use Rattle.automata.specs.Search.{Entry}
 use Rattle.automata.specs.Pairs.{Pair}
-use Rattle.word_sets.specs.Sets.{view, Settled}
+use Rattle.word_sets.specs.Sets.{view, εClosedSet}
 use Rattle.word_sets.specs.Rows.{row}
 use Rattle.table_sets.specs.Stepping.{FromList, Held, Starts, setOf}
 use Rattle.compare_pairs.specs.Map.{firstBlock, firstSets, secondBlock, secondSets}
@@ -53,12 +53,12 @@ pub record Both (a : ℕ) (s t : Side) (w : List ℕ) (count₁ plain₁ count�
   pub held₂ : Held count₂ a (t .arcs) (FromList w secondBlock count₂ plain₂)
   pub start₁ : view count₁ (row w firstBlock 0) ≡ live count₁ (s .arcs) []
   pub start₂ : view count₂ (row w secondBlock 0) ≡ live count₂ (t .arcs) []
-  pub settled₁ : Settled count₁ (s .arcs) (row w firstBlock 0)
-  pub settled₂ : Settled count₂ (t .arcs) (row w secondBlock 0)
+  pub settled₁ : εClosedSet count₁ (s .arcs) (row w firstBlock 0)
+  pub settled₂ : εClosedSet count₂ (t .arcs) (row w secondBlock 0)
 
 -- the set u is the live set S behind letter l
 abbrev pub Behind : Side → List Bool → ℕ → List ℕ → Type 0
-Behind s S l u = (view (s .size) u ≡ byLetter (s .size) (s .arcs) S l) × Settled (s .size) (s .arcs) u
+Behind s S l u = (view (s .size) u ≡ byLetter (s .size) (s .arcs) S l) × εClosedSet (s .size) (s .arcs) u
 
 -- the sets of the letters are those behind the pair q
 abbrev pub LetterSets : ℕ → Side → Side → List ℕ → ℕ → ℕ → Pair → Type 0

@@ -5,15 +5,15 @@ use lib.ListN.{length, drop}
 use Rattle.file_writing.specs.declared.Written.{Written}
 use Rattle.file_writing.specs.declared.Written.the-variants.{Bytes, Refused}
 
--- the number of the refusal and the automaton at fault, each 0 where there is none; the length of the file written
+-- the number of the refusal and the automaton at fault, each 0 where there is none; the size of the file written in bytes
 pub record Told : Type 0 where
   pub number : ℕ
-  pub automaton : ℕ
-  pub length : ℕ
+  pub at-fault : ℕ
+  pub size : ℕ
 
 abbrev pub told : Written → Told
-told (Bytes n) = record { number = 0; automaton = 0; length = n }
-told (Refused n b) = record { number = n; automaton = b; length = 0 }
+told (Bytes n) = record { number = 0; at-fault = 0; size = n }
+told (Refused n b) = record { number = n; at-fault = b; size = 0 }
 
 -- the output afterwards, where the file was to be written into `old`: on success the file and the bytes behind it as lent,
 -- on refusal all as lent

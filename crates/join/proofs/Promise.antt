@@ -7,7 +7,8 @@ use mathlib.Core.List.{List}
 use Prim.Native.Nat.{ℕ}
 use lib.ListN.{length}
 use Rattle.automata.specs.Automaton.{Automaton, WellFormed}
-use Rattle.automata.specs.Joins.{Split, closure, concatenation, intersection, union}
+use Rattle.automata.specs.Joins.{closure, concatenation, intersection, union}
+use Rattle.automata.specs.Languages.{Concatenation, Intersection, Union}
 use Rattle.automata.specs.Words.{Language}
 use Rattle.automata.proofs.Laws.{concatenating, intersecting, uniting}
 use Rattle.format.specs.Decoding.{automatonOf}
@@ -17,7 +18,7 @@ use Rattle.file_writing.specs.Answers.{outputOf, told}
 use Rattle.file_writing.specs.declared.Written.{Written}
 use Rattle.join_parts.specs.Joining.{beyond, closedOf, joinedOf}
 use Rattle.join_intersection.proofs.Laws.{intersection-fits}
-use Rattle.join.specs.Promises.{Closed, InBoth, InEither, TwoJoined}
+use Rattle.join.specs.Promises.{Closed, TwoJoined}
 use Rattle.join_union.proofs.Laws.{union-fits}
 use Rattle.join_concatenation.proofs.Laws.{concatenation-fits}
 use Rattle.join.proofs.Outcomes.{one-closed, two-joined}
@@ -39,16 +40,16 @@ module _ (join : Automaton → Automaton → Automaton) (Words : (P Q : List ℕ
 
 module _ (first second old out : List ℕ) (answer : Written) where
   -- union: the words of either
-  pub union-promised : Answers union first second old answer → Leaves union first second old out answer → TwoJoined union InEither first second old out (told answer)
-  union-promised = join-promised union InEither union-fits uniting first second old out answer
+  pub union-promised : Answers union first second old answer → Leaves union first second old out answer → TwoJoined union Union first second old out (told answer)
+  union-promised = join-promised union Union union-fits uniting first second old out answer
 
   -- concatenation: a word of the first and then a word of the second
-  pub concatenation-promised : Answers concatenation first second old answer → Leaves concatenation first second old out answer → TwoJoined concatenation Split first second old out (told answer)
-  concatenation-promised = join-promised concatenation Split concatenation-fits concatenating first second old out answer
+  pub concatenation-promised : Answers concatenation first second old answer → Leaves concatenation first second old out answer → TwoJoined concatenation Concatenation first second old out (told answer)
+  concatenation-promised = join-promised concatenation Concatenation concatenation-fits concatenating first second old out answer
 
   -- intersection: the words of both
-  pub intersection-promised : Answers intersection first second old answer → Leaves intersection first second old out answer → TwoJoined intersection InBoth first second old out (told answer)
-  intersection-promised = join-promised intersection InBoth intersection-fits intersecting first second old out answer
+  pub intersection-promised : Answers intersection first second old answer → Leaves intersection first second old out answer → TwoJoined intersection Intersection first second old out (told answer)
+  intersection-promised = join-promised intersection Intersection intersection-fits intersecting first second old out answer
 
 -- closure: the finite sequences of words, none at all included
 pub closure-promised : (file old out : List ℕ) (answer : Written) → answer ≡ closedOf file (length old) → out ≡ outputOf answer (bytesOf (closure (automatonOf file))) old → Closed file old out (told answer)

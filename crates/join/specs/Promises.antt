@@ -6,19 +6,13 @@ use mathlib.Core.List.{List, List·Memᴰ, [], _∷_}
 use Prim.Native.Nat.{_<_, _≤_, ℕ}
 use lib.ListN.{drop, length, take}
 use Rattle.automata.specs.Automaton.{Arc, Automaton, states}
-use Rattle.automata.specs.Joins.{Star, closure}
+use Rattle.automata.specs.Joins.{closure}
+use Rattle.automata.specs.Languages.{Star}
 use Rattle.automata.specs.Words.{Language}
 use Rattle.format.specs.Decoding.{automatonOf}
 use Rattle.format.specs.Encoding.{bytesOf}
 use Rattle.format.specs.Refusals.{FirstHolds, faultOf}
 use Rattle.file_writing.specs.Answers.{Told}
-
--- ---- words of two languages (`Split`, a word of one and then a word of the other, and `Star` are automata's specs/Joins.antt)
-abbrev pub InEither : (P Q : List ℕ → Type 0) → List ℕ → Type 0
-InEither P Q word = P word ⊎ Q word
-
-abbrev pub InBoth : (P Q : List ℕ → Type 0) → List ℕ → Type 0
-InBoth P Q word = P word × Q word
 
 -- ---- the joined automaton x, the words that it is to accept, and the output before the call and after it
 -- beyond a limit on s, n, m or p
@@ -57,14 +51,14 @@ closeConditions file x space =
 -- ---- what is promised of a call with these conditions; `Ready`: no file is at fault, and 10 does not hold
 pub record Joined (conditions : List (Type 0 × ℕ × ℕ)) (Ready : Type 0) (x : Automaton) (Words : List ℕ → Type 0) (old out : List ℕ) (t : Told) : Type 0 where
   -- where nothing is refused, the file is there, and its length is told
-  pub size : t .number ≡ 0 → t .length ≡ length (bytesOf x)
-  pub file : t .number ≡ 0 → FileOf x Words (t .length) old out
+  pub size : t .number ≡ 0 → t .size ≡ length (bytesOf x)
+  pub file : t .number ≡ 0 → FileOf x Words (t .size) old out
   -- a refusal leaves the output as it was lent
   pub unchanged : t .number ≢ 0 → out ≡ old
   -- the number is 0 just where nothing is to be refused
   pub none : (t .number ≡ 0) ↔ (Ready × (¬ Beyond x) × (length (bytesOf x) ≤ length old))
   -- each refusal has its number and its automaton at fault just where its condition is the first that holds; where none holds, both are 0
-  pub refuses : (n b : ℕ) → ((t .number ≡ n) × (t .automaton ≡ b)) ↔ FirstHolds conditions n b
+  pub refuses : (n b : ℕ) → ((t .number ≡ n) × (t .at-fault ≡ b)) ↔ FirstHolds conditions n b
 
 -- both files are valid, and list the same letters
 pub record Alike (first second : List ℕ) : Type 0 where

@@ -27,7 +27,7 @@ use Rattle.format.specs.Encoding.{letterByte}
 use Rattle.word_fields.specs.Fields.{field}
 use Rattle.word_fields.specs.Frame.{Kept}
 use Rattle.word_fields.proofs.Laws.{field-same}
-use Rattle.word_sets.specs.Sets.{Settled, view}
+use Rattle.word_sets.specs.Sets.{εClosedSet, view}
 use Rattle.word_sets.specs.Rows.{Link, Closure, here, next, related, row}
 use Rattle.word_sets.proofs.Laws.{view-is}
 use Rattle.table_sets.proofs.Laws.{held-each}
@@ -182,7 +182,7 @@ some-configuration {x} {L} b = rw (b .many) (getElem?-lt (configurations x L) 0 
 -- ---- the start of a walk over words
 -- Row 0 of a built block is the live set of the empty word.
 pub row-start : {x : Automaton} {L : ℕ} {w : List ℕ} {base k p : ℕ} → Built x L w base k p
-    → (view k (row w base 0) ≡ epsilonClosure k (plainArcs x L) (table k (eqb 0))) × Settled k (plainArcs x L) (row w base 0)
+    → (view k (row w base 0) ≡ epsilonClosure k (plainArcs x L) (table k (eqb 0))) × εClosedSet k (plainArcs x L) (row w base 0)
 unfolding related epsilonClosure
 row-start {x} {L} {w} {base} {k} b = (is, (λ j t. run-below k arcs inside pos ((b .rows 0 j pos) .0 t), rw is (epsilonClosure-closed k arcs inside first (length-table k (eqb 0)))))
   where

@@ -9,7 +9,7 @@ use native.Mathlib.Omega.{arith}
 use lib.Dec.{T}
 use lib.ListN.{length}
 use Rattle.automata.specs.Automaton.{Automaton}
-use Rattle.automata.specs.Counting.{Counts}
+use Rattle.automata.specs.Counting.{Exactly}
 use Rattle.automata.specs.Unfolding.{acceptedBytes, configurations, liveCount}
 use Rattle.automata.specs.Words.{Language, LiveAfter}
 use Rattle.automata.proofs.Laws.{membership, reaching-more}
@@ -55,12 +55,12 @@ module _ (file word : List ℕ) (words : ℕ) where
   unfolding judged
   answered a = go (acceptedBytes x 256 word) (right .0) (right .1)
     where
-      right : (T (acceptedBytes x 256 word) ↔ Language x word) × Counts (LiveAfter x word) (liveCount x 256 word)
+      right : (T (acceptedBytes x 256 word) ↔ Language x word) × Exactly (LiveAfter x word) (liveCount x 256 word)
       right =
           let v = no-fault file (a .valid) in
           membership x 256 (at-least 256 (length (configurations x 256)) (λ h. a .few (reaching-more x 256 .0 h))) (valid-automaton file (v .0) (v .1) .0 .letters-apart) word
 
-      go : (b : Bool) → T b ↔ Language x word → Counts (LiveAfter x word) (liveCount x 256 word) → Promised file word words (told (cond b (Accepted (liveCount x 256 word)) (Rejected (liveCount x 256 word))))
+      go : (b : Bool) → T b ↔ Language x word → Exactly (LiveAfter x word) (liveCount x 256 word) → Promised file word words (told (cond b (Accepted (liveCount x 256 word)) (Rejected (liveCount x 256 word))))
       go true l n = record { accepts = (λ t. (a, l .0 t), λ p. tt); counts = λ _. n; none = (λ _. a, λ _. refl); refuses = first-exactly cs (none-first cs (none-of a)) }
       go false l n = record { accepts = (λ t. absurd t, λ p. l .1 (p .1)); counts = λ _. n; none = (λ _. a, λ _. refl); refuses = first-exactly cs (none-first cs (none-of a)) }
 

@@ -24,7 +24,7 @@ use Rattle.file_fields.specs.declared.letters.Letter.{Letter}
 use Rattle.file_fields.specs.declared.letters.Letter.the-variants.{At, None}
 use Rattle.word_fields.specs.Frame.{Kept}
 use Rattle.word_fields.proofs.Laws.{kept-same, kept-then}
-use Rattle.word_sets.specs.Sets.{Settled, Within, view}
+use Rattle.word_sets.specs.Sets.{εClosedSet, Within, view}
 use Rattle.word_sets.proofs.Laws.{empty-set, table-ext}
 use Rattle.table.specs.FileSteps.{Outgoing}
 use Rattle.table.specs.Words.{Built, Stored, letterSets, liveBytes}
@@ -106,7 +106,7 @@ empty-view k = (table-ext k (λ j h. empty-set j), λ j t. absurd (subst T (empt
 pub record Walking (x : Automaton) (word w₀ : List ℕ) (base count plain : ℕ) (set₀ w set : List ℕ) (i : ℕ) : Type 0 where
   pub few : i ≤ length word
   pub kept : Kept letterSets (letterSets + 256) w₀ w
-  pub live : (L : ℕ) → Built x L w₀ base count plain → Stored x L w₀ count → Settled count (plainArcs x L) set₀ → (liveBytes x L count (view count set₀) word ≡ liveBytes x L count (view count set) (drop i word)) × Settled count (plainArcs x L) set
+  pub live : (L : ℕ) → Built x L w₀ base count plain → Stored x L w₀ count → εClosedSet count (plainArcs x L) set₀ → (liveBytes x L count (view count set₀) word ≡ liveBytes x L count (view count set) (drop i word)) × εClosedSet count (plainArcs x L) set
 
 pub walking-start : (x : Automaton) (word w : List ℕ) (base count plain : ℕ) (set : List ℕ) → Walking x word w base count plain set w set 0
 walking-start x word w base count plain set = record { few = omega arith; kept = kept-same letterSets (letterSets + 256) w; live = λ L b t s. (refl, s) }
@@ -118,7 +118,7 @@ module _ {x : Automaton} {word w₀ w : List ℕ} {base count plain : ℕ} {set�
   -- a turn with a letter
   pub walking-more : {file : List ℕ} {c : Counts} {w' next : List ℕ} {l : ℕ} → ((L : ℕ) → Built x L w₀ base count plain → Stored x L w₀ count → Outgoing file c w base count plain (letters x) (plainArcs x L))
       → letters x ≤ 64 → i < length word → letterNumber (getD word i 0) (x .alphabet) ≡ At l → Kept letterSets (letterSets + 256) w w'
-      → ((letters : ℕ) (arcs : List PlainArc) → Outgoing file c w base count plain letters arcs → letters ≤ 64 → Settled count arcs set → l < letters → (view count next ≡ byLetter count arcs (view count set) l) × Settled count arcs next)
+      → ((letters : ℕ) (arcs : List PlainArc) → Outgoing file c w base count plain letters arcs → letters ≤ 64 → εClosedSet count arcs set → l < letters → (view count next ≡ byLetter count arcs (view count set) l) × εClosedSet count arcs next)
       → Walking x word w₀ base count plain set₀ w' next (i + 1)
   walking-more {l = l} o few h e k f = record {
     few = omega arith;
@@ -130,11 +130,11 @@ module _ {x : Automaton} {word w₀ w : List ℕ} {base count plain : ℕ} {set�
   }
 
   -- a byte that is no letter
-  pub walking-foreign : i < length word → letterNumber (getD word i 0) (x .alphabet) ≡ None → (L : ℕ) → Built x L w₀ base count plain → Stored x L w₀ count → Settled count (plainArcs x L) set₀
+  pub walking-foreign : i < length word → letterNumber (getD word i 0) (x .alphabet) ≡ None → (L : ℕ) → Built x L w₀ base count plain → Stored x L w₀ count → εClosedSet count (plainArcs x L) set₀
       → (view count (0 ∷ 0 ∷ 0 ∷ 0 ∷ []) ≡ liveBytes x L count (view count set₀) word) × Within count (0 ∷ 0 ∷ 0 ∷ 0 ∷ [])
   walking-foreign h e L b t z =
       let m = empty-view count in
       (m .0 ∙ sym (v .live L b t z .0 ∙ rw (rest h) (live-foreign x L count (view count set) (getD word i 0) (drop (i + 1) word) e)), m .1)
 
-  pub walking-end : length word ≤ i → (L : ℕ) → Built x L w₀ base count plain → Stored x L w₀ count → Settled count (plainArcs x L) set₀ → (view count set ≡ liveBytes x L count (view count set₀) word) × Within count set
+  pub walking-end : length word ≤ i → (L : ℕ) → Built x L w₀ base count plain → Stored x L w₀ count → εClosedSet count (plainArcs x L) set₀ → (view count set ≡ liveBytes x L count (view count set₀) word) × Within count set
   walking-end h L b t z = let p = v .live L b t z in (sym (p .0 ∙ rw (drop-of-length-le word h) (live-end x L count (view count set))), p .1 .0)

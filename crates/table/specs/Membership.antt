@@ -33,11 +33,11 @@ membershipOf file word words = unlessRefused Refused (tests 256 file words) (jud
 -- word is accepted, and how many configurations are live
 pub record Told : Type 0 where
   pub number : ℕ
-  pub automaton : ℕ
+  pub at-fault : ℕ
   pub accepted : Bool
   pub live : ℕ
 
 abbrev pub told : Membership → Told
-told (Accepted n) = record { number = 0; automaton = 0; accepted = true; live = n }
-told (Rejected n) = record { number = 0; automaton = 0; accepted = false; live = n }
-told (Refused n b) = record { number = n; automaton = b; accepted = false; live = 0 }
+told (Accepted n) = record { number = 0; at-fault = 0; accepted = true; live = n }
+told (Rejected n) = record { number = 0; at-fault = 0; accepted = false; live = n }
+told (Refused n b) = record { number = n; at-fault = b; accepted = false; live = 0 }

@@ -5,7 +5,7 @@ use mathlib.Core.List.{List, [], _∷_}
 use Prim.Native.Nat.{_<_, _≤_, ℕ}
 use lib.Dec.{T}
 use Rattle.automata.specs.Automaton.{Reachable}
-use Rattle.automata.specs.Counting.{Counts, MoreThan}
+use Rattle.automata.specs.Counting.{Exactly, MoreThan}
 use Rattle.automata.specs.Words.{Language, LiveAfter}
 use Rattle.format.specs.Decoding.{automatonOf}
 use Rattle.format.specs.Refusals.{FirstHolds, faultOf}
@@ -30,8 +30,8 @@ pub record Promised (file word : List ℕ) (words : ℕ) (t : Told) : Type 0 whe
   -- a word is told accepted just if nothing is refused and a run spells it and ends in a final state
   pub accepts : T (t .accepted) ↔ (Answered file words × Language (automatonOf file) word)
   -- the number is that of the configurations that runs spelling the word end in
-  pub counts : Answered file words → Counts (LiveAfter (automatonOf file) word) (t .live)
+  pub counts : Answered file words → Exactly (LiveAfter (automatonOf file) word) (t .live)
   -- the number is 0 just where nothing is to be refused
   pub none : (t .number ≡ 0) ↔ Answered file words
   -- each refusal has its number and its automaton at fault just where its condition is the first that holds; where none holds, both are 0
-  pub refuses : (n b : ℕ) → ((t .number ≡ n) × (t .automaton ≡ b)) ↔ FirstHolds (conditions file words) n b
+  pub refuses : (n b : ℕ) → ((t .number ≡ n) × (t .at-fault ≡ b)) ↔ FirstHolds (conditions file words) n b

@@ -12,7 +12,7 @@ ghost use Rattle.table_operations.specs.Arcs.{ArcAt, Indexed, Linked, Walkable}
 ghost use Rattle.table_operations.specs.Map.{mapEnd};
 ghost use Rattle.table_operations.specs.Packed.{hop};
 ghost use Rattle.word_fields.specs.Frame.{Kept};
-ghost use Rattle.word_sets.specs.Sets.{inSet, view, Settled};
+ghost use Rattle.word_sets.specs.Sets.{inSet, view, εClosedSet};
 ghost use Rattle.table_sets.specs.Stepping.{setOf, Held, Room};
 ghost use Rattle.table.specs.FileSteps.{Led, FromFile, Findable};
 use format::Counts;
@@ -103,8 +103,8 @@ pub fn step_file(
     requires { ⌜ Walkable counts (now file) × (Indexed counts (now file) (now w) × Linked counts (now file) (now w)) ⌝ }
     requires { ⌜ (mapEnd ≤ acc) × (Room (now w) base acc × Findable (now w) known) ⌝ }
     ensures kept { λ _. ⌜ Kept acc (acc + 256) (now (w .entry)) (now (w .exit)) ⌝ }
-    ensures set { λ r. ⌜ ((letters : ℕ) (arcs : List PlainArc) → Held known letters arcs (FromFile (now (file .entry)) counts (now (w .entry)) base known) → letters ≤ 64 → Settled known arcs set → (l : ℕ) → l < letters
-        → (view known (setOf (now (w .exit)) acc r l) ≡ byLetter known arcs (view known set) l) × Settled known arcs (setOf (now (w .exit)) acc r l)) ⌝ }
+    ensures set { λ r. ⌜ ((letters : ℕ) (arcs : List PlainArc) → Held known letters arcs (FromFile (now (file .entry)) counts (now (w .entry)) base known) → letters ≤ 64 → εClosedSet known arcs set → (l : ℕ) → l < letters
+        → (view known (setOf (now (w .exit)) acc r l) ≡ byLetter known arcs (view known set) l) × εClosedSet known arcs (setOf (now (w .exit)) acc r l)) ⌝ }
 {
     let mut met: u64 = 0;
     let mut c = word_sets::next_live(set, 0);

@@ -9,7 +9,7 @@ ghost use Rattle.table_operations.specs.Map.{blockEnd};
 ghost use Rattle.format.specs.Decoding.{decoded};
 ghost use Rattle.table_letters.specs.Lettered.{sources, letteredEnd, Lettered};
 ghost use Rattle.word_fields.specs.Frame.{Kept};
-ghost use Rattle.word_sets.specs.Sets.{view, Settled, Within};
+ghost use Rattle.word_sets.specs.Sets.{view, εClosedSet, Within};
 ghost use Rattle.table.specs.FileSteps.{Outgoing, Steppable};
 ghost use Rattle.table.specs.Words.{letterSets, Built, Stored, Ready, liveBytes};
 ghost use Rattle.table.specs.Membership.{judged};
@@ -38,8 +38,8 @@ fn step_letter(
 ) -> [u64; 4]
     requires { ⌜ (l < 64) × (Steppable (now file) c (now w) base letterSets count plain × Lettered (now w) base count plain) ⌝ }
     ensures kept { λ _. ⌜ Kept letterSets (letterSets + 256) (now (w .entry)) (now (w .exit)) ⌝ }
-    ensures set { λ r. ⌜ ((letters : ℕ) (arcs : List PlainArc) → Outgoing (now (file .entry)) c (now (w .entry)) base count plain letters arcs → letters ≤ 64 → Settled count arcs set → l < letters
-        → (view count r ≡ byLetter count arcs (view count set) l) × Settled count arcs r) ⌝ }
+    ensures set { λ r. ⌜ ((letters : ℕ) (arcs : List PlainArc) → Outgoing (now (file .entry)) c (now (w .entry)) base count plain letters arcs → letters ≤ 64 → εClosedSet count arcs set → l < letters
+        → (view count r ≡ byLetter count arcs (view count set) l) × εClosedSet count arcs r) ⌝ }
 {
     if plain <= 2048 {
         return follow(w, base, plain, set, l);
@@ -62,7 +62,7 @@ pub fn walk_word(
 ) -> [u64; 4]
     requires { ⌜ (c .letters ≤ 64) × (Steppable (now file) c (now w) base letterSets count plain × Lettered (now w) base count plain) ⌝ }
     ensures kept { λ _. ⌜ Kept letterSets (letterSets + 256) (now (w .entry)) (now (w .exit)) ⌝ }
-    ensures set { λ r. ⌜ ((L : ℕ) → Built (decoded c (now (file .entry))) L (now (w .entry)) base count plain → Stored (decoded c (now (file .entry))) L (now (w .entry)) count → Settled count (plainArcs (decoded c (now (file .entry))) L) from
+    ensures set { λ r. ⌜ ((L : ℕ) → Built (decoded c (now (file .entry))) L (now (w .entry)) base count plain → Stored (decoded c (now (file .entry))) L (now (w .entry)) count → εClosedSet count (plainArcs (decoded c (now (file .entry))) L) from
         → (view count r ≡ liveBytes (decoded c (now (file .entry))) L count (view count from) (now (word .entry))) × Within count r) ⌝ }
 {
     let mut set = from;

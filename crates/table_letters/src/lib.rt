@@ -7,7 +7,7 @@ ghost use lib.ListN.{length};
 ghost use Rattle.automata.specs.Live.{PlainArc, byLetter};
 ghost use Rattle.table_operations.specs.Map.{blockEnd};
 ghost use Rattle.word_fields.specs.Frame.{Kept};
-ghost use Rattle.word_sets.specs.Sets.{view, Settled};
+ghost use Rattle.word_sets.specs.Sets.{view, εClosedSet};
 ghost use Rattle.table_sets.specs.Stepping.{FromList, Held, Starts};
 ghost use Rattle.table_letters.specs.Lettered.{sources, letterNexts, letteredEnd, sourceOf, LetterChain, Sourced, Followable, Lettered};
 use table_explore::map::BLOCK_ARCS;
@@ -89,8 +89,8 @@ pub fn link(w: &mut [u64], base: usize, count: usize, plain: usize)
 // Cost: one step for each listed arc with that letter, and a row where its source is live.
 pub fn follow(w: &[u64], base: usize, plain: usize, set: [u64; 4], l: usize) -> [u64; 4]
     requires { ⌜ (l < 256) × Followable (now w) base plain ⌝ }
-    ensures { λ r. ⌜ ((count letters : ℕ) (arcs : List PlainArc) → Sourced (now (w .entry)) base count plain → Held count letters arcs (FromList (now (w .entry)) base count plain) → Settled count arcs set → l < letters
-        → (view count r ≡ byLetter count arcs (view count set) l) × Settled count arcs r) ⌝ }
+    ensures { λ r. ⌜ ((count letters : ℕ) (arcs : List PlainArc) → Sourced (now (w .entry)) base count plain → Held count letters arcs (FromList (now (w .entry)) base count plain) → εClosedSet count arcs set → l < letters
+        → (view count r ≡ byLetter count arcs (view count set) l) × εClosedSet count arcs r) ⌝ }
 {
     let mut out = word_sets::empty();
     let mut k = get16(w, LETTER_HEADS, l);

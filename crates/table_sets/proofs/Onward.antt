@@ -12,7 +12,7 @@ use Rattle.automata.specs.Live.{Moves, PlainArc, byLetter, in?}
 use Rattle.automata.proofs.Laws.{byLetter-closed, byLetter-iff, closed-run, length-byLetter, run-below}
 use Rattle.word_fields.specs.Frame.{Kept}
 use Rattle.word_fields.proofs.Laws.{kept-same, kept-then}
-use Rattle.word_sets.specs.Sets.{Next, Settled, inSet, view}
+use Rattle.word_sets.specs.Sets.{Next, εClosedSet, inSet, view}
 use Rattle.word_sets.proofs.Laws.{in-view, view-is}
 use Rattle.table_sets.specs.Stepping.{Held, setOf}
 use Rattle.table_sets.proofs.LetterSets.{none-met}
@@ -62,7 +62,7 @@ module _ (From : ℕ → ℕ → ℕ → Type 0) where
     }
 
   -- THE LAW. Where the members below c lead by a letter is the live set behind it
-  module _ {count c : ℕ} {set : List ℕ} (out : List ℕ) (h : count ≤ c) (letters : ℕ) (arcs : List PlainArc) (held : Held count letters arcs From) (ws : Settled count arcs set) (l : ℕ) (hl : l < letters)
+  module _ {count c : ℕ} {set : List ℕ} (out : List ℕ) (h : count ≤ c) (letters : ℕ) (arcs : List PlainArc) (held : Held count letters arcs From) (ws : εClosedSet count arcs set) (l : ℕ) (hl : l < letters)
       (onward : (j : ℕ) → T (inSet out j) ↔ Onward set c l j) where
     Went : ℕ → Type 0
     Went j = (s t : ℕ) × T (inSet set s) × Moves arcs s (some l) t × Run (Moves arcs) t [] j
@@ -85,7 +85,7 @@ module _ (From : ℕ → ℕ → ℕ → Type 0) where
       λ t. let p = (byLetter-iff count arcs (held .within) (view count set) l j) .0 t in (went j) .1 (p .0, p .1, (in-view count set (p .0)) .0 (p .2) .1, p .3, p .4),
     )
 
-    pub led : (view count out ≡ byLetter count arcs (view count set) l) × Settled count arcs out
+    pub led : (view count out ≡ byLetter count arcs (view count set) l) × εClosedSet count arcs out
     unfolding Went
     led = (is, (λ j t. let p = (went j) .0 t in run-below count arcs (held .within) (held .within _ (p .3)) (p .4), rw is (byLetter-closed count arcs (held .within) (view count set) l)))
       where
@@ -94,6 +94,6 @@ module _ (From : ℕ → ℕ → ℕ → Type 0) where
 
   -- the sets that a step leaves are those behind one more letter
   pub stepped : {w₀ w : List ℕ} {acc count : ℕ} {set : List ℕ} {c met : ℕ} → count ≤ c → Stepping w₀ acc set c w met
-      → (letters : ℕ) (arcs : List PlainArc) → Held count letters arcs From → letters ≤ 64 → Settled count arcs set → (l : ℕ) → l < letters
-      → (view count (setOf w acc met l) ≡ byLetter count arcs (view count set) l) × Settled count arcs (setOf w acc met l)
+      → (letters : ℕ) (arcs : List PlainArc) → Held count letters arcs From → letters ≤ 64 → εClosedSet count arcs set → (l : ℕ) → l < letters
+      → (view count (setOf w acc met l) ≡ byLetter count arcs (view count set) l) × εClosedSet count arcs (setOf w acc met l)
   stepped {w = w} {acc = acc} {met = met} h k letters arcs held few ws l hl = led (setOf w acc met l) h letters arcs held ws l hl (λ j. k .sets l j (omega arith))

@@ -10,7 +10,7 @@ ghost use lib.ListN.{length};
 ghost use Rattle.automata.specs.Live.{PlainArc, byLetter};
 ghost use Rattle.table_operations.specs.Map.{blockEnd};
 ghost use Rattle.word_fields.specs.Frame.{Kept};
-ghost use Rattle.word_sets.specs.Sets.{inSet, view, Settled};
+ghost use Rattle.word_sets.specs.Sets.{inSet, view, εClosedSet};
 ghost use Rattle.word_sets.specs.Rows.{related};
 ghost use Rattle.table_sets.specs.Stepping.{setOf, endAt, Among, FromList, Held, Room, Starts};
 use table_explore::map::BLOCK_ARCS;
@@ -99,8 +99,8 @@ pub fn step(
 ) -> u64
     requires { ⌜ Room (now w) base acc × Starts (now w) base count plain ⌝ }
     ensures kept { λ _. ⌜ Kept acc (acc + 256) (now (w .entry)) (now (w .exit)) ⌝ }
-    ensures set { λ r. ⌜ ((letters : ℕ) (arcs : List PlainArc) → Held count letters arcs (FromList (now (w .entry)) base count plain) → letters ≤ 64 → Settled count arcs set → (l : ℕ) → l < letters
-        → (view count (setOf (now (w .exit)) acc r l) ≡ byLetter count arcs (view count set) l) × Settled count arcs (setOf (now (w .exit)) acc r l)) ⌝ }
+    ensures set { λ r. ⌜ ((letters : ℕ) (arcs : List PlainArc) → Held count letters arcs (FromList (now (w .entry)) base count plain) → letters ≤ 64 → εClosedSet count arcs set → (l : ℕ) → l < letters
+        → (view count (setOf (now (w .exit)) acc r l) ≡ byLetter count arcs (view count set) l) × εClosedSet count arcs (setOf (now (w .exit)) acc r l)) ⌝ }
 {
     let mut met: u64 = 0;
     let mut c = word_sets::next_live(set, 0);

@@ -51,12 +51,12 @@ pub record Unfolds (file result : List ℕ) : Type 0 where
 pub record Promised (file : List ℕ) (words : ℕ) (old out : List ℕ) (t : Told) : Type 0 where
   -- where nothing is refused, the length told is that of the unfolded file, which stands at the front of the output, and the bytes behind
   -- it are as lent
-  pub size : t .number ≡ 0 → t .length ≡ length (bytesOf (unfolded (automatonOf file) 256))
-  pub written : t .number ≡ 0 → Unfolds file (take (t .length) out)
-  pub behind : t .number ≡ 0 → drop (t .length) out ≡ drop (t .length) old
+  pub size : t .number ≡ 0 → t .size ≡ length (bytesOf (unfolded (automatonOf file) 256))
+  pub written : t .number ≡ 0 → Unfolds file (take (t .size) out)
+  pub behind : t .number ≡ 0 → drop (t .size) out ≡ drop (t .size) old
   -- a refusal leaves the output as it was lent
   pub untouched : t .number ≢ 0 → out ≡ old
   -- the number is 0 just where nothing is to be refused
   pub none : (t .number ≡ 0) ↔ Answered file words (length old)
   -- each refusal has its number and its automaton at fault just where its condition is the first that holds; where none holds, both are 0
-  pub refuses : (n b : ℕ) → ((t .number ≡ n) × (t .automaton ≡ b)) ↔ FirstHolds (conditions file words (length old)) n b
+  pub refuses : (n b : ℕ) → ((t .number ≡ n) × (t .at-fault ≡ b)) ↔ FirstHolds (conditions file words (length old)) n b

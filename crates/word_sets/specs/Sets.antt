@@ -4,7 +4,7 @@ use mathlib.Core.List.{List}
 use Prim.Native.Nat.{ℕ, _/_, _%_, _^_, _≤_, _<_}
 use lib.Dec.{T, eqb}
 use lib.ListN.{getD}
-use Rattle.automata.specs.Live.{Closed, PlainArc, table}
+use Rattle.automata.specs.Live.{εClosed, PlainArc, table}
 
 -- is digit k of the word x a 1?
 unfoldable pub bit : ℕ → ℕ → Bool
@@ -23,8 +23,8 @@ abbrev pub Within : ℕ → List ℕ → Type 0
 Within n s = (j : ℕ) → T (inSet s j) → j < n
 
 -- a set of numbers below n that no empty move leaves, as live sets are
-abbrev pub Settled : ℕ → List PlainArc → List ℕ → Type 0
-Settled n arcs s = Within n s × Closed arcs (view n s)
+abbrev pub εClosedSet : ℕ → List PlainArc → List ℕ → Type 0
+εClosedSet n arcs s = Within n s × εClosed arcs (view n s)
 
 -- r is the least member from c on, or 256 where there is none
 pub record Next (s : List ℕ) (c r : ℕ) : Type 0 where
