@@ -1,4 +1,4 @@
-// listing: a file told in words, or as a graph in the DOT language, on standard output, as far as it can be read; and the place
+// book_listing: a file told in words, or as a graph in the DOT language, on standard output, as far as it can be read; and the place
 // where reading meets its first fault. The number of that fault is format::read's to say.
 ghost use Prim.Native.Nat.{_<_, _≤_};
 ghost use lib.ListN.{length};

@@ -14,7 +14,7 @@ use Rattle.automata.specs.Search.{Entry, entries, firstOf}
 use Rattle.automata.specs.Unfolding.{configurations, finalSet, liveSet, plainArcs}
 use Rattle.automata.proofs.Laws.{First, at, firstOf-first, getElem?-lt, getElem?-some, nowhere, shown-many}
 use Rattle.compare_pairs.specs.Entries.{Holds, Side, Tree, along, begin, sideOf}
-use Rattle.compare_pairs.specs.Map.{firstBlock, secondBlock}
+use Rattle.word_layout.specs.Layout.{firstBlock, secondBlock}
 use Rattle.compare_pairs.specs.declared.Grown.{Grown}
 use Rattle.compare_search.specs.Searching.{Both, Outcome}
 use Rattle.word_sets.specs.Sets.{view}

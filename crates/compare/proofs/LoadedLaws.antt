@@ -6,10 +6,11 @@ use mathlib.Core.List.{List}
 use Prim.Native.Nat.{ℕ, _+_, _≤_}
 use native.Mathlib.Omega.{arith}
 use lib.Dec.{ltb}
+use Rattle.word_fields.specs.Frame.{KeptBut}
 use Rattle.automata.specs.Automaton.{Automaton, letters}
 use Rattle.table_operations.specs.Arcs.{Indexed, Linked}
 use Rattle.table_explore.specs.Explores.{exploredOf}
-use Rattle.table_operations.specs.Map.{KeptBut, Placed, arcsAt, blockEnd}
+use Rattle.word_layout.specs.Layout.{Placed, arcsAt, blockEnd, firstSets}
 use Rattle.table_configurations.specs.declared.Explored.{Explored}
 use Rattle.table_configurations.specs.declared.Explored.the-variants.{Tables}
 use Rattle.format.specs.Decoding.{automatonOf, decoded}
@@ -21,14 +22,16 @@ use Rattle.file_laws.proofs.Laws.{valid-decoded, valid-letters}
 use Rattle.file_writing.proofs.Laws.{valid-alphabet}
 use Rattle.word_sets.specs.Sets.{inSet}
 use Rattle.table.specs.Finals.{isFinalIn}
-use Rattle.table_sets.specs.Stepping.{Starts, ToldStill}
-use Rattle.table.specs.Words.{Builds, BuiltAs, Ready, letterSets}
-use Rattle.table.proofs.Laws.{built-kept, built-pruned, built-ready, ready-finals}
+use Rattle.table_sets.specs.Stepping.{Starts}
+use Rattle.compare_prune.specs.Pruning.{ToldStill}
+use Rattle.table.specs.Words.{Builds, BuiltAs, Ready}
+use Rattle.table.proofs.Laws.{built-kept, built-ready, ready-finals}
+use Rattle.compare_prune.proofs.Laws.{built-pruned}
 use Rattle.table_sets.proofs.Laws.{SameBlock}
 use Rattle.compare.specs.Answers.{Loaded}
 
 -- what building leaves where it answers tables
-pub built-file : {file w : List ℕ} {c : Counts} {base k p : ℕ} {r : Explored} → readingOf file ≡ Valid c → Placed w base → letterSets + 256 ≤ base → Indexed c file w → Linked c file w
+pub built-file : {file w : List ℕ} {c : Counts} {base k p : ℕ} {r : Explored} → readingOf file ≡ Valid c → Placed w base → firstSets + 256 ≤ base → Indexed c file w → Linked c file w
     → Builds (decoded c file) 256 w base r → r ≡ Tables k p → Ready file c w base k p
 built-file {file} {w} {c} {base} e place high i l b t =
     let q = subst (λ (r : Explored). BuiltAs (decoded c file) 256 w base r) t (b .block) in
@@ -51,8 +54,8 @@ letters-few : (file : List ℕ) (c : Counts) → readingOf file ≡ Valid c → 
 letters-few file c e = let v = valid-letters file c e in rw (valid-alphabet file c e) (omega (arith, letters-length c file (v .1), v .0))
 
 -- listed arcs that add nothing are dropped
-pub loaded-pruned : (file : List ℕ) {w w' : List ℕ} {c : Counts} {base k p r : ℕ} {f : List ℕ} → readingOf file ≡ Valid c → Loaded (automatonOf file) 256 w base k p f → letterSets + 256 ≤ base
-    → KeptBut letterSets (letterSets + 256) (arcsAt base) (blockEnd base) w w' → Starts w' base k r
+pub loaded-pruned : (file : List ℕ) {w w' : List ℕ} {c : Counts} {base k p r : ℕ} {f : List ℕ} → readingOf file ≡ Valid c → Loaded (automatonOf file) 256 w base k p f → firstSets + 256 ≤ base
+    → KeptBut firstSets (firstSets + 256) (arcsAt base) (blockEnd base) w w' → Starts w' base k r
     → ToldStill w w' base k p r → Loaded (automatonOf file) 256 w' base k r f
 loaded-pruned file {c = c} e l apart frame starts held =
     record { built = built-pruned (l .built) (l .listed) (l .built .ended) (letters-few file c e) apart frame starts held; listed = starts .less; finals = l .finals }

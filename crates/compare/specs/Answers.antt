@@ -11,7 +11,7 @@ use Rattle.automata.specs.Pairs.{pairs}
 use Rattle.automata.specs.Unfolding.{configurations, finalSet, plainArcs}
 use Rattle.format.specs.Decoding.{automatonOf}
 use Rattle.format.specs.Refusals.{unlessRefused}
-use Rattle.compare_pairs.specs.Map.{firstBlock, secondBlock}
+use Rattle.word_layout.specs.Layout.{firstBlock, secondBlock}
 use Rattle.word_sets.specs.Sets.{view}
 use Rattle.table.specs.Words.{Built}
 use Rattle.compare.specs.Compares.{ShownBy}

@@ -5,18 +5,18 @@ ghost use Prim.Native.Nat.{_≤_};
 ghost use lib.ListN.{length};
 ghost use Rattle.format.specs.Decoding.{automatonOf};
 ghost use Rattle.join_parts.specs.Joining.{Joinable};
-ghost use Rattle.compare_pairs.specs.Map.{firstBlock};
+ghost use Rattle.word_layout.specs.Layout.{firstBlock};
 ghost use Rattle.compare.specs.Answers.{FilesAnswer, Loaded, firstTests, secondTests};
 use super::Comparison;
 use super::deciding::decide;
+use compare_prune::prune;
 use format::Counts;
 use table::block::build;
 use table::finals::final_set;
 use table_explore::Explored;
-use table_explore::map::FIRST_BLOCK;
-use table_explore::map::FIRST_SETS;
-use table_explore::map::SECOND_BLOCK;
-use table_sets::pruning::prune;
+use word_layout::FIRST_BLOCK;
+use word_layout::FIRST_SETS;
+use word_layout::SECOND_BLOCK;
 
 // The first automaton is built already, and f is the set of its final configurations; the second is built now, and both are compared.
 // Cost: what building and comparing take.

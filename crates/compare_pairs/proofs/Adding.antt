@@ -11,9 +11,10 @@ use Rattle.word_fields.specs.Frame.{Kept, Beside}
 use Rattle.word_fields.specs.Fields.{field, Apart}
 use Rattle.word_fields.specs.Chains.{Chain, Found}
 use Rattle.word_fields.proofs.Laws.{beside-kept, chain-kept, field-same, kept-then, kept-wider}
-use Rattle.word_sets.specs.Rows.{row}
-use Rattle.word_sets.proofs.Laws.{Four, row-below, row-four, row-other, set-ext}
-use Rattle.compare_pairs.specs.Map.{parents, pairHeads, pairNexts, pairsEnd}
+use Rattle.word_rows.specs.Rows.{row}
+use Rattle.word_sets.proofs.Laws.{Four, set-ext}
+use Rattle.word_rows.proofs.Laws.{row-below, row-four, row-other}
+use Rattle.word_layout.specs.Layout.{parents, pairHeads, pairNexts, firstSets}
 use Rattle.compare_pairs.specs.Pairs.{Added, Lacking, PairAt, PairChain, pairSlot}
 
 -- a pair has the key of its sets
@@ -21,7 +22,7 @@ pub same-slot : (w u v : List ℕ) (i : ℕ) → PairAt w u v i → pairSlot (ro
 same-slot w u v i d = ap₂ pairSlot (d .0) (d .1)
 
 -- where it is not found, no pair has the members of its sets
-pub lacking : (w u v : List ℕ) {n r : ℕ} → n ≤ 512 → pairsEnd ≤ length w → ((j : ℕ) → getD w j 0 < 2 ^ 64) → Four u → Four v → Found (PairAt w u v) n r → n ≤ r → Lacking w n u v
+pub lacking : (w u v : List ℕ) {n r : ℕ} → n ≤ 512 → firstSets ≤ length w → ((j : ℕ) → getD w j 0 < 2 ^ 64) → Four u → Four v → Found (PairAt w u v) n r → n ≤ r → Lacking w n u v
 lacking w u v few long words fu fv f h p l x y =
     f .miss (omega (arith, f .few)) p l
     (set-ext (row-four w 0 (2 * p) (omega arith) words) fu x, set-ext (row-four w 0 (2 * p + 1) (omega arith) words) fv y)
@@ -34,7 +35,7 @@ module _ {w w1 w2 w3 w4 u v : List ℕ} {s : ℕ} (n from : ℕ) (h : n < 512)
     (es : s ≡ pairSlot u v) (ls : s < 509) (b : Beside (pairHeads + s / 4) (pairNexts + n / 4) w3 w4)
     (f : (key : ℕ → ℕ) (slots : ℕ) → Chain key w3 pairHeads pairNexts slots n → Apart pairHeads slots pairNexts (n + 1) → s < slots → key n ≡ s
     → Chain key w4 pairHeads pairNexts slots (n + 1)) where
-  k4 : Kept pairHeads pairsEnd w3 w4
+  k4 : Kept pairHeads firstSets w3 w4
   k4 = beside-kept (omega arith) (omega arith) (omega arith) (omega arith) b
 
   k12 : Kept 0 parents w w2

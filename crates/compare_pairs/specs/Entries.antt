@@ -14,8 +14,8 @@ use Rattle.automata.specs.Search.{Entry}
 use Rattle.automata.specs.Pairs.{Pair, samePair}
 use Rattle.word_fields.specs.Fields.{field}
 use Rattle.word_sets.specs.Sets.{view, εClosedSet}
-use Rattle.word_sets.specs.Rows.{row}
-use Rattle.compare_pairs.specs.Map.{parents}
+use Rattle.word_rows.specs.Rows.{row}
+use Rattle.word_layout.specs.Layout.{parents}
 
 -- plain arcs between the numbers below `size`
 pub record Side : Type 0 where

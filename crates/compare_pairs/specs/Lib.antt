@@ -1,3 +1,2 @@
-pub mod Map
 pub mod Entries
 pub mod Pairs

@@ -9,8 +9,8 @@ use Rattle.word_fields.specs.Frame.{Kept}
 use Rattle.word_fields.specs.Fields.{field}
 use Rattle.word_fields.specs.Chains.{Chain}
 use Rattle.word_sets.specs.Sets.{inSet}
-use Rattle.word_sets.specs.Rows.{row}
-use Rattle.compare_pairs.specs.Map.{parents, pairHeads, pairNexts, pairsEnd}
+use Rattle.word_rows.specs.Rows.{row}
+use Rattle.word_layout.specs.Layout.{parents, pairHeads, pairNexts, firstSets}
 use Rattle.compare_pairs.specs.declared.Grown.{Grown}
 use Rattle.compare_pairs.specs.declared.Grown.the-variants.{TooMany, Total}
 
@@ -41,7 +41,7 @@ Lacking w n u v = (p : ℕ) → p < n → ((j : ℕ) → inSet (row w 0 (2 * p))
 
 -- pair n is (u, v), and `from` tells its parent and letter; the pairs before it are as they were, and so is what stands behind the table
 pub record Added (w w' : List ℕ) (n : ℕ) (u v : List ℕ) (from : ℕ) : Type 0 where
-  pub kept : Kept 0 pairsEnd w w'
+  pub kept : Kept 0 firstSets w w'
   pub new : PairAt w' u v n
   pub old : (p : ℕ) → p < n → PairAt w' (row w 0 (2 * p)) (row w 0 (2 * p + 1)) p
   pub own : field w' parents n ≡ from

@@ -1,4 +1,4 @@
-// pairs: the table of the pairs of live sets that comparing meets, in lent words. Pair i is rows 2 i and 2 i + 1 from word 0 on. A pair
+// compare_pairs: the table of the pairs of live sets that comparing meets, in lent words. Pair i is rows 2 i and 2 i + 1 from word 0 on. A pair
 // is found again along the chain of its key, so that meeting one does not look at all of them.
 ghost use mathlib.Core.Path.{_≡_};
 ghost use mathlib.Core.Logic.{_↔_};
@@ -6,21 +6,17 @@ ghost use Prim.Native.Nat.{_+_, _*_, _≤_, _<_};
 ghost use lib.Dec.{T};
 ghost use lib.ListN.{length};
 ghost use Rattle.word_fields.specs.Chains.{Found};
-ghost use Rattle.compare_pairs.specs.Map.{pairsEnd};
+ghost use Rattle.word_layout.specs.Layout.{firstSets};
 ghost use Rattle.compare_pairs.specs.Pairs.{turn, pairSlot, PairChain, PairAt, Added, Met};
 use word_fields::chains::push;
 use word_fields::get16;
 use word_fields::put16;
-use word_sets::rows::load;
-use word_sets::rows::store;
+use word_layout::PAIR_HEADS;
+use word_layout::PAIR_NEXTS;
+use word_layout::PARENTS;
+use word_rows::load;
+use word_rows::store;
 use word_sets::same;
-
-// Where the table stands (specs/Map.antt).
-pub const PARENTS: usize = 4096;
-
-pub const PAIR_HEADS: usize = 4224;
-
-const PAIR_NEXTS: usize = 4352;
 
 // How many pairs there are now, or that there is no room for one more.
 pub enum Grown {
@@ -63,7 +59,7 @@ fn is_pair(w: &[u64], i: usize, u: [u64; 4], v: [u64; 4]) -> bool
 // The number of the pair among the first n, or n where it is not there: along the chain of its key.
 // Cost: as many steps as pairs have its key; n at most.
 fn find_pair(w: &[u64], n: usize, u: [u64; 4], v: [u64; 4]) -> usize
-    requires { ⌜ (n ≤ 512) × ((pairsEnd ≤ length (now w)) × PairChain (now w) n) ⌝ }
+    requires { ⌜ (n ≤ 512) × ((firstSets ≤ length (now w)) × PairChain (now w) n) ⌝ }
     ensures { λ r. ⌜ Found (PairAt (now (w .entry)) u v) n r ⌝ }
 {
     let mut g = get16(w, PAIR_HEADS, pair_slot(u, v));
@@ -79,7 +75,7 @@ fn find_pair(w: &[u64], n: usize, u: [u64; 4], v: [u64; 4]) -> usize
 // The pair becomes pair n; `from` is its parent times 64 plus its letter.
 // Cost: constant.
 pub fn add_pair(w: &mut [u64], n: usize, u: [u64; 4], v: [u64; 4], from: usize)
-    requires { ⌜ (n < 512) × ((from < 65536) × ((pairsEnd ≤ length (now w)) × PairChain (now w) n)) ⌝ }
+    requires { ⌜ (n < 512) × ((from < 65536) × ((firstSets ≤ length (now w)) × PairChain (now w) n)) ⌝ }
     ensures { λ _. ⌜ Added (now (w .entry)) (now (w .exit)) n u v from ⌝ }
 {
     store(w, 0, 2 * n, u);
@@ -91,7 +87,7 @@ pub fn add_pair(w: &mut [u64], n: usize, u: [u64; 4], v: [u64; 4], from: usize)
 // The pair is one of the n, or it becomes the next one.
 // Cost: as many steps as pairs have its key; n at most.
 pub fn meet(w: &mut [u64], n: usize, u: [u64; 4], v: [u64; 4], from: usize) -> Grown
-    requires { ⌜ (n ≤ 512) × ((from < 65536) × ((pairsEnd ≤ length (now w)) × PairChain (now w) n)) ⌝ }
+    requires { ⌜ (n ≤ 512) × ((from < 65536) × ((firstSets ≤ length (now w)) × PairChain (now w) n)) ⌝ }
     ensures { λ r. ⌜ Met (now (w .entry)) (now (w .exit)) n u v from r ⌝ }
 {
     if find_pair(w, n, u, v) < n {

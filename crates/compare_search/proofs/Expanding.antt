@@ -13,11 +13,11 @@ use Rattle.automata.specs.Search.{Entry}
 use Rattle.word_fields.specs.Frame.{Kept}
 use Rattle.word_fields.proofs.Laws.{kept-then, kept-wider}
 use Rattle.word_sets.specs.Sets.{εClosedSet, view}
-use Rattle.word_sets.specs.Rows.{row}
-use Rattle.word_sets.proofs.Laws.{row-below}
+use Rattle.word_rows.specs.Rows.{row}
+use Rattle.word_rows.proofs.Laws.{row-below}
 use Rattle.table_sets.specs.Stepping.{FromList, Held, Starts, setOf}
 use Rattle.table_sets.proofs.Laws.{block-kept, starts-kept}
-use Rattle.compare_pairs.specs.Map.{firstBlock, firstSets, pairsEnd, secondBlock, secondSets}
+use Rattle.word_layout.specs.Layout.{firstBlock, firstSets, secondBlock, secondSets}
 use Rattle.compare_pairs.specs.Entries.{Holds, Side}
 use Rattle.compare_search.specs.Searching.{Behind, Both, LetterSets, Ready}
 use Rattle.compare_search.proofs.Frames.{behind-same, held-kept, set-same}
@@ -50,7 +50,7 @@ module _ {a count₁ plain₁ count₂ plain₂ : ℕ} {w w₁ w₂ u v : List �
       )
 
 -- both steps write between the table and the blocks
-pub both-steps : {w w₁ w₂ : List ℕ} → Kept firstSets (firstSets + 256) w w₁ → Kept secondSets (secondSets + 256) w₁ w₂ → Kept pairsEnd firstBlock w w₂
+pub both-steps : {w w₁ w₂ : List ℕ} → Kept firstSets (firstSets + 256) w w₁ → Kept secondSets (secondSets + 256) w₁ w₂ → Kept firstSets firstBlock w w₂
 both-steps k₁ k₂ = kept-then (kept-wider (omega arith) (omega arith) k₁) (kept-wider (omega arith) (omega arith) k₂)
 
 -- what the second step asks, once the first is done

@@ -14,11 +14,11 @@ use Rattle.word_fields.specs.Fields.{field}
 use Rattle.word_fields.specs.Frame.{Kept}
 use Rattle.word_fields.proofs.Laws.{chain-kept, field-same}
 use Rattle.word_sets.specs.Sets.{εClosedSet, bit, view}
-use Rattle.word_sets.specs.Rows.{row}
-use Rattle.word_sets.proofs.Laws.{row-above, row-below}
+use Rattle.word_rows.specs.Rows.{row}
+use Rattle.word_rows.proofs.Laws.{row-above, row-below}
 use Rattle.table_sets.specs.Stepping.{FromList, Held, Room, Starts, setOf}
 use Rattle.table_sets.proofs.Laws.{SameBlock, block-kept, held-same, list-kept, starts-kept}
-use Rattle.compare_pairs.specs.Map.{firstBlock, firstSets, parents, pairHeads, pairNexts, pairsEnd, secondBlock, secondSets}
+use Rattle.word_layout.specs.Layout.{firstBlock, firstSets, parents, pairHeads, pairNexts, secondBlock, secondSets}
 use Rattle.compare_pairs.specs.Entries.{Child, Holds, Side}
 use Rattle.compare_pairs.specs.Pairs.{pairSlot}
 use Rattle.compare_search.specs.Searching.{Behind, Both, Ready, Table}
@@ -69,14 +69,14 @@ unfolding setOf
 set-same w w' acc met l e = ap (λ (x : List ℕ). cond (bit met l) x (0 ∷ 0 ∷ 0 ∷ 0 ∷ [])) e
 
 -- the table is written: the sets behind it stay
-pub set-above : {w w' : List ℕ} (acc met l : ℕ) → Kept 0 pairsEnd w w' → pairsEnd ≤ acc → setOf w' acc met l ≡ setOf w acc met l
+pub set-above : {w w' : List ℕ} (acc met l : ℕ) → Kept 0 firstSets w w' → firstSets ≤ acc → setOf w' acc met l ≡ setOf w acc met l
 set-above {w} {w'} acc met l k h = set-same w w' acc met l (row-above acc l k (omega arith))
 
 pub behind-same : (s : Side) (S : List Bool) (l : ℕ) {u v : List ℕ} → v ≡ u → Behind s S l u → Behind s S l v
 behind-same s S l e b = (ap (view (s .size)) e ∙ b .0, subst (λ (x : List ℕ). εClosedSet (s .size) (s .arcs) x) (sym e) (b .1))
 
 -- ---- the table
-module _ {b : ℕ} {w w' : List ℕ} (k : Kept pairsEnd b w w') where
+module _ {b : ℕ} {w w' : List ℕ} (k : Kept firstSets b w w') where
   parent-kept : (p : ℕ) → p < 512 → field w' parents p ≡ field w parents p
   parent-kept p h = field-same w w' parents p (k .below (parents + p / 4) (omega arith))
 

@@ -18,7 +18,7 @@ use Rattle.word_fields.proofs.Laws.{kept-same, kept-then}
 use Rattle.word_sets.specs.Sets.{bit}
 use Rattle.table_sets.specs.Stepping.{setOf}
 use Rattle.table_sets.proofs.Laws.{set-off}
-use Rattle.compare_pairs.specs.Map.{firstSets, pairsEnd, secondSets}
+use Rattle.word_layout.specs.Layout.{firstSets, secondSets}
 use Rattle.compare_pairs.specs.Entries.{Holds, Side, alike, along, onEntry}
 use Rattle.compare_pairs.specs.Pairs.{Met, Old}
 use Rattle.compare_pairs.specs.declared.Grown.{Grown}
@@ -67,7 +67,7 @@ pub going-start : (a i from met₁ met₂ : ℕ) (w : List ℕ) → Going a i fr
 unfolding nextEntries
 going-start a i from met₁ met₂ w s t es e b h p = record { so-far = es; holds = h; stands = p; makes = let z : a - 0 ≡ a = omega arith in ap (λ (k : ℕ). addAll alike es (map (onEntry s t e) (countFrom 0 k))) z }
 
-module _ (a i from met₁ met₂ : ℕ) (w₀ w w' : List ℕ) (n l : ℕ) (ha : a ≤ 64) (hl : l < a) (k : Kept 0 pairsEnd w₀ w) (g : Going a i from met₁ met₂ w₀ w n l)
+module _ (a i from met₁ met₂ : ℕ) (w₀ w w' : List ℕ) (n l : ℕ) (ha : a ≤ 64) (hl : l < a) (k : Kept 0 firstSets w₀ w) (g : Going a i from met₁ met₂ w₀ w n l)
     (s t : Side) (es : List (Entry Pair)) (e : Entry Pair) (b : LetterSets a s t w₀ met₁ met₂ (e .state)) (h : Holds s t w₀ from es) (p : getElem? es i ≡ some e) where
   left : Left s t e a i w n l (addAll alike es (nextEntries (along s t) a e))
   left = g s t es e b h p
@@ -113,7 +113,7 @@ going-end a i from met₁ met₂ w₀ w n l h g s t es e b k p =
 -- ---- the invariant: the letters below l are done, and where `dead` the pair of two empty sets is known
 pub record Turns (a i from met₁ met₂ : ℕ) (w₀ w : List ℕ) (n : ℕ) (dead : Bool) (l : ℕ) : Type 0 where
   pub few : l ≤ a
-  pub kept : Kept 0 pairsEnd w₀ w
+  pub kept : Kept 0 firstSets w₀ w
   pub more : from ≤ n
   pub table : Table a w n
   pub empty : T dead → EmptyPair w n
@@ -121,7 +121,7 @@ pub record Turns (a i from met₁ met₂ : ℕ) (w₀ w : List ℕ) (n : ℕ) (d
 
 pub turns-start : (a i from met₁ met₂ : ℕ) (w : List ℕ) → Table a w from → Turns a i from met₁ met₂ w w from false 0
 turns-start a i from met₁ met₂ w t =
-    record { few = omega arith; kept = kept-same 0 pairsEnd w; more = omega arith; table = t; empty = λ x. absurd x; going = going-start a i from met₁ met₂ w }
+    record { few = omega arith; kept = kept-same 0 firstSets w; more = omega arith; table = t; empty = λ x. absurd x; going = going-start a i from met₁ met₂ w }
 
 module _ {a i from met₁ met₂ : ℕ} {w₀ w : List ℕ} {n : ℕ} {dead : Bool} {l : ℕ} (w' : List ℕ) (r : Grown) (ha : a ≤ 64) (hi : i < from) (hl : l < a)
     (k : Turns a i from met₁ met₂ w₀ w n dead l) (x : Met w w' n (setOf w firstSets met₁ l) (setOf w secondSets met₂ l) (i * 64 + l) r) where
@@ -131,7 +131,7 @@ module _ {a i from met₁ met₂ : ℕ} {w₀ w : List ℕ} {n : ℕ} {dead : Bo
   low : i < n
   low = omega (arith, k .more)
 
-  pub turns-kept : Kept 0 pairsEnd w₀ w'
+  pub turns-kept : Kept 0 firstSets w₀ w'
   turns-kept = kept-then (k .kept) (met-kept a w w' (setOf w firstSets met₁ l) (setOf w secondSets met₂ l) n i l low hl ha (k .table) r x)
 
   pub turns-more : (m : ℕ) {none : Bool} → r ≡ Total m → none ≡ not (bit met₁ l || bit met₂ l) → Turns a i from met₁ met₂ w₀ w' m (dead || none) (l + 1)

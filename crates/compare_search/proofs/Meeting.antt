@@ -17,9 +17,9 @@ use Rattle.word_fields.specs.Fields.{field}
 use Rattle.word_fields.specs.Frame.{Kept}
 use Rattle.word_fields.proofs.Laws.{kept-same}
 use Rattle.word_sets.specs.Sets.{εClosedSet, Within, inSet, view}
-use Rattle.word_sets.specs.Rows.{row}
+use Rattle.word_rows.specs.Rows.{row}
 use Rattle.word_sets.proofs.Laws.{in-view}
-use Rattle.compare_pairs.specs.Map.{parents, pairsEnd}
+use Rattle.word_layout.specs.Layout.{parents, firstSets}
 use Rattle.compare_pairs.specs.Entries.{Holds, Row, Side, alike, letterOf, parentOf}
 use Rattle.compare_pairs.specs.Pairs.{Added, Lacking, Met, PairAt}
 use Rattle.compare_pairs.specs.declared.Grown.{Grown}
@@ -28,9 +28,9 @@ use Rattle.compare_search.specs.Searching.{EmptyPair, Grows, Outcome, Ta
 
 -- ---- whatever the words stand for
 module _ (a : ℕ) (w w' u v : List ℕ) (n i l : ℕ) (hi : i < n) (hl : l < a) (ha : a ≤ 64) (t : Table a w n) where
-  pub met-kept : (r : Grown) → Met w w' n u v (i * 64 + l) r → Kept 0 pairsEnd w w'
-  met-kept TooMany f = subst (λ (x : List ℕ). Kept 0 pairsEnd w x) (sym (f .same)) (kept-same 0 pairsEnd w)
-  met-kept (Total m) (inl o) = subst (λ (x : List ℕ). Kept 0 pairsEnd w x) (sym (o .same)) (kept-same 0 pairsEnd w)
+  pub met-kept : (r : Grown) → Met w w' n u v (i * 64 + l) r → Kept 0 firstSets w w'
+  met-kept TooMany f = subst (λ (x : List ℕ). Kept 0 firstSets w x) (sym (f .same)) (kept-same 0 firstSets w)
+  met-kept (Total m) (inl o) = subst (λ (x : List ℕ). Kept 0 firstSets w x) (sym (o .same)) (kept-same 0 firstSets w)
   met-kept (Total m) (inr o) = o .added .kept
 
   pub met-grows : (r : Grown) → Met w w' n u v (i * 64 + l) r → Grows a w' n r

@@ -15,8 +15,8 @@ use Rattle.automata.proofs.Laws.{getElem?-some, known-ended, known-long, none-s
 use Rattle.word_fields.specs.Frame.{Kept}
 use Rattle.word_fields.proofs.Laws.{kept-same, kept-then}
 use Rattle.word_sets.specs.Sets.{εClosedSet, view}
-use Rattle.word_sets.specs.Rows.{row}
-use Rattle.compare_pairs.specs.Map.{firstBlock, secondBlock}
+use Rattle.word_rows.specs.Rows.{row}
+use Rattle.word_layout.specs.Layout.{firstBlock, secondBlock}
 use Rattle.compare_pairs.specs.Entries.{Holds, Row, Side, alike, along, begin}
 use Rattle.compare_pairs.specs.Pairs.{Added}
 use Rattle.compare_pairs.specs.declared.Grown.{Grown}

@@ -9,9 +9,9 @@ use Rattle.automata.specs.Live.{byLetter, live}
 use Rattle.automata.specs.Search.{Entry}
 use Rattle.automata.specs.Pairs.{Pair}
 use Rattle.word_sets.specs.Sets.{view, εClosedSet}
-use Rattle.word_sets.specs.Rows.{row}
+use Rattle.word_rows.specs.Rows.{row}
 use Rattle.table_sets.specs.Stepping.{FromList, Held, Starts, setOf}
-use Rattle.compare_pairs.specs.Map.{firstBlock, firstSets, secondBlock, secondSets}
+use Rattle.word_layout.specs.Layout.{firstBlock, firstSets, secondBlock, secondSets}
 use Rattle.compare_pairs.specs.Entries.{Holds, Side, Tree}
 use Rattle.compare_pairs.specs.Pairs.{PairAt, PairChain}
 use Rattle.compare_pairs.specs.declared.Grown.{Grown}

@@ -1,4 +1,4 @@
-// search: all pairs of live sets that words lead to, of two automata that stand in blocks of the lent words. The pairs are walked in
+// compare_search: all pairs of live sets that words lead to, of two automata that stand in blocks of the lent words. The pairs are walked in
 // number order, each by all letters, so the word by which a pair is met first is a shortest one.
 ghost use mathlib.Core.Path.{_≡_};
 ghost use mathlib.Core.Bool.{not, _||_};
@@ -13,21 +13,21 @@ ghost use Rattle.automata.specs.Pairs.{Pair, samePair};
 ghost use Rattle.word_fields.specs.Frame.{Kept};
 ghost use Rattle.word_sets.specs.Sets.{bit};
 ghost use Rattle.table_sets.specs.Stepping.{setOf};
-ghost use Rattle.compare_pairs.specs.Map.{pairsEnd, firstSets, secondSets, firstBlock};
+ghost use Rattle.word_layout.specs.Layout.{firstSets, secondSets, firstBlock};
 ghost use Rattle.compare_pairs.specs.Entries.{Side, along, begin, alike, Holds};
 ghost use Rattle.compare_pairs.specs.Pairs.{PairChain, Met};
 ghost use Rattle.compare_search.specs.Searching.{Ready, Table, Grows, EmptyPair, Both, LetterSets, Outcome};
 use compare_pairs::Grown;
-use compare_pairs::PAIR_HEADS;
 use compare_pairs::add_pair;
 use compare_pairs::meet;
-use table_explore::map::FIRST_BLOCK;
-use table_explore::map::FIRST_SETS;
-use table_explore::map::SECOND_BLOCK;
-use table_explore::map::SECOND_SETS;
+use compare_step::step;
 use table_sets::set_of;
-use table_sets::step;
-use word_sets::rows::load;
+use word_layout::FIRST_BLOCK;
+use word_layout::FIRST_SETS;
+use word_layout::PAIR_HEADS;
+use word_layout::SECOND_BLOCK;
+use word_layout::SECOND_SETS;
+use word_rows::load;
 
 // Is letter l met by neither side?
 // Cost: constant.
@@ -67,7 +67,7 @@ fn meet_letter(
 fn meet_letters(w: &mut [u64], a: usize, i: usize, from: usize, met1: u64, met2: u64) -> Grown
     requires { ⌜ (a ≤ 64) × ((i < from) × (8192 ≤ length (now w))) ⌝ }
     requires { ⌜ Table a (now w) from ⌝ }
-    ensures kept { λ _. ⌜ Kept 0 pairsEnd (now (w .entry)) (now (w .exit)) ⌝ }
+    ensures kept { λ _. ⌜ Kept 0 firstSets (now (w .entry)) (now (w .exit)) ⌝ }
     ensures grows { λ r. ⌜ Grows a (now (w .exit)) from r ⌝ }
     ensures meets { λ r. ⌜ ((s t : Side) (es : List (Entry Pair)) (e : Entry Pair) → LetterSets a s t (now (w .entry)) met1 met2 (e .state) → Holds s t (now (w .entry)) from es → getElem? es i ≡ some e
         → Outcome 512 s t (now (w .exit)) (addAll alike es (nextEntries (along s t) a e)) r) ⌝ }

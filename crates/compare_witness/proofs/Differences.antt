@@ -14,7 +14,7 @@ use Rattle.automata.specs.Live.{meets}
 use Rattle.automata.specs.Pairs.{Pair}
 use Rattle.automata.specs.Search.{Entry, firstOf}
 use Rattle.automata.proofs.Laws.{getElem?-lt}
-use Rattle.word_sets.specs.Rows.{row}
+use Rattle.word_rows.specs.Rows.{row}
 use Rattle.word_sets.specs.Sets.{Within, inSet, view}
 use Rattle.word_sets.proofs.Laws.{meets-view}
 use Rattle.compare_pairs.specs.Entries.{Holds, Side}

@@ -7,7 +7,7 @@ use lib.ListN.{drop, getD, length, length-set, set}
 use Rattle.automata.proofs.Laws.{map-append}
 use Rattle.word_fields.specs.Fields.{field}
 use Rattle.compare_pairs.specs.Entries.{Tree}
-use Rattle.compare_pairs.specs.Map.{parents}
+use Rattle.word_layout.specs.Layout.{parents}
 use Rattle.compare_witness.specs.Spelled.{spelled}
 use Rattle.compare_witness.proofs.Climbing.{spelled-length, spelled-step, spelled-zero}
 

@@ -7,7 +7,7 @@ use lib.ListN.{length}
 use Rattle.automata.specs.Live.{meets}
 use Rattle.automata.specs.Pairs.{Pair}
 use Rattle.compare_pairs.specs.Entries.{Tree, letterOf, parentOf}
-use Rattle.compare_pairs.specs.Map.{pairHeads}
+use Rattle.word_layout.specs.Layout.{pairHeads}
 
 -- up the parents from pair k, f of them at most: as many as k are enough
 unfoldable pub spelled : List ℕ → ℕ → ℕ → List ℕ

@@ -1,4 +1,4 @@
-// shown: the first pair of a table that differs, and the word by which it was met.
+// compare_witness: the first pair of a table that differs, and the word by which it was met.
 ghost use mathlib.Core.Path.{_≡_};
 ghost use mathlib.Core.List.{List, _++_, map};
 ghost use Prim.Native.Nat.{ℕ, _+_, _*_, _≤_};
@@ -7,10 +7,10 @@ ghost use Rattle.automata.specs.Live.{meets};
 ghost use Rattle.automata.specs.Pairs.{Pair};
 ghost use Rattle.automata.specs.Search.{Entry, firstOf};
 ghost use Rattle.compare_pairs.specs.Entries.{Holds, Side};
-ghost use Rattle.word_sets.specs.Rows.{row};
+ghost use Rattle.word_rows.specs.Rows.{row};
 ghost use Rattle.word_sets.specs.Sets.{Within, view};
 ghost use Rattle.compare_witness.specs.Spelled.{Climb, alone, differsBy, wordOf};
-use compare_pairs::PARENTS;
+use word_layout::PARENTS;
 
 // Which automaton alone accepts the words of pair i: 1, 2, or 0 where both or neither do. f and g are the final sets of the two.
 // Cost: constant.
@@ -18,8 +18,8 @@ pub fn judge_pair(w: &[u64], i: usize, f: [u64; 4], g: [u64; 4]) -> u8
     requires { ⌜ 8 * i + 8 ≤ length (now w) ⌝ }
     ensures { λ r. ⌜ ((m n : ℕ) → Within m (row (now (w .entry)) 0 (2 * i)) → Within n (row (now (w .entry)) 0 (2 * i + 1)) → r ≡ alone (meets (view m (row (now (w .entry)) 0 (2 * i))) (view m f)) (meets (view n (row (now (w .entry)) 0 (2 * i + 1))) (view n g))) ⌝ }
 {
-    let x = word_sets::meets(word_sets::rows::load(w, 0, 2 * i), f);
-    let y = word_sets::meets(word_sets::rows::load(w, 0, 2 * i + 1), g);
+    let x = word_sets::meets(word_rows::load(w, 0, 2 * i), f);
+    let y = word_sets::meets(word_rows::load(w, 0, 2 * i + 1), g);
     if x {
         if y {
             return 0;

@@ -1,4 +1,4 @@
-// arc_writing: the bytes of an arc: four bytes, and the operations written behind the four bytes already there.
+// file_arc_writing: the bytes of an arc: four bytes, and the operations written behind the four bytes already there.
 ghost use mathlib.Core.Path.{_≡_};
 ghost use mathlib.Core.List.{_∷_, [], map, _++_};
 ghost use Prim.Native.Nat.{ℕ, _+_, _*_, _<_, _≤_};

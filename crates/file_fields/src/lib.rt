@@ -1,4 +1,4 @@
-// file_parts: what reading a file answers, the numbers that stand at its places, its header and its letters (document 01, 'The book
+// file_fields: what reading a file answers, the numbers that stand at its places, its header and its letters (document 01, 'The book
 // file'). Each function computes one definition of specs/.
 ghost use mathlib.Core.Path.{_≡_};
 ghost use Rattle.file_fields.specs.Parts.{numberOf};

@@ -1,4 +1,4 @@
-// closures: a new state 0, initial and final, with an empty move into the automaton, and a return from each final state.
+// join_closure: a new state 0, initial and final, with an empty move into the automaton, and a return from each final state.
 ghost use mathlib.Core.Path.{_≡_};
 ghost use Prim.Native.Nat.{_+_, _*_, _≤_};
 ghost use lib.ListN.{length};

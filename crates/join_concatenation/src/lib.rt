@@ -1,4 +1,4 @@
-// concatenations: an empty move from each final state of the first automaton to the initial state of the second, whose states
+// join_concatenation: an empty move from each final state of the first automaton to the initial state of the second, whose states
 // stand behind those of the first, and whose registers from 1 up behind its registers.
 ghost use mathlib.Core.Path.{_≡_};
 ghost use Prim.Native.Nat.{_+_, _≤_};

@@ -1,4 +1,4 @@
-// intersection: the intersection of two automata in files (document 01, 'Joining books'). Its arcs are counted first, so that a
+// join_intersection: the intersection of two automata in files (document 01, 'Joining books'). Its arcs are counted first, so that a
 // result beyond a limit is refused before anything is written; and they are counted only where states and registers are few enough.
 ghost use mathlib.Core.Path.{_≡_};
 ghost use Prim.Native.Nat.{_+_, _*_, _≤_};

@@ -1,4 +1,4 @@
-// joining: what joins of automata in files are made of (document 01, 'Joining books'): the files and their refusals, the counts and
+// join_parts: what joins of automata in files are made of (document 01, 'Joining books'): the files and their refusals, the counts and
 // the length of the result, and the writers of its parts.
 
 pub mod answer;

@@ -1,4 +1,4 @@
-// pairing: the arcs of an intersection, group by group (document 01, 'Joining books'): how many they are, how many bytes they take,
+// join_product_count: the arcs of an intersection, group by group (document 01, 'Joining books'): how many they are, how many bytes they take,
 // and whether one has more than 8 operations, before any is written.
 ghost use mathlib.Core.Path.{_≡_};
 ghost use mathlib.Core.List.{flatMap};

@@ -1,4 +1,4 @@
-// unions: a new state 0 with an empty move into each automaton; the states of the second stand behind those of the first.
+// join_union: a new state 0 with an empty move into each automaton; the states of the second stand behind those of the first.
 ghost use mathlib.Core.Path.{_≡_};
 ghost use Prim.Native.Nat.{_+_, _≤_};
 ghost use lib.ListN.{length};

@@ -1,4 +1,4 @@
-// lines: the line that tells an answer, written into bytes that the caller lends.
+// line_answers: the line that tells an answer, written into bytes that the caller lends.
 // Each function answers how many bytes the line takes, its newline included; what has no room is cut.
 use file_writing::Written;
 use format::Counts;

@@ -1,4 +1,4 @@
-// compare_lines: the line that tells what comparing answers, written into bytes that the caller lends.
+// line_comparison: the line that tells what comparing answers, written into bytes that the caller lends.
 // Each function answers how many bytes the line takes, its newline included; what has no room is cut.
 use compare::Comparison;
 ghost use Rattle.line_text.specs.Writing.{Writes};

@@ -1,4 +1,4 @@
-// text: numbers, bytes and words as ASCII text in bytes that the caller lends (document 01, `bookcompare`).
+// line_text: numbers, bytes and words as ASCII text in bytes that the caller lends (document 01, `bookcompare`).
 // Each function writes at a place and answers the place behind what it wrote, so that a line is assembled by one call
 // after the other. What has no room is cut: an answer below the length of `out` tells that nothing was.
 ghost use mathlib.Core.Path.{_≡_};

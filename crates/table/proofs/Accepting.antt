@@ -11,7 +11,7 @@ use Rattle.automata.specs.Automaton.{Automaton, WellFormed, letters}
 use Rattle.automata.specs.Unfolding.{configurations}
 use Rattle.table_operations.specs.Arcs.{Indexed, Linked, Walkable}
 use Rattle.table_explore.specs.Explores.{Explores, exploredOf}
-use Rattle.table_operations.specs.Map.{Placed}
+use Rattle.word_layout.specs.Layout.{Placed, firstSets}
 use Rattle.table_configurations.specs.declared.Explored.the-variants.{Tables, TooMany}
 use Rattle.table_configurations.proofs.Laws.{configured-kept}
 use Rattle.format.specs.Decoding.{automatonOf, decoded}
@@ -23,10 +23,10 @@ use Rattle.file_fields.specs.declared.Reading.the-variants.{Refused as Fault, V
 use Rattle.file_fields.proofs.Laws.{letters-length}
 use Rattle.file_laws.proofs.Laws.{has-fault, valid-decoded, valid-lies, valid-ranges, valid-wellFormed}
 use Rattle.word_fields.specs.Frame.{Kept}
-use Rattle.word_sets.specs.Rows.{Closure, Link, related}
+use Rattle.word_rows.specs.Rows.{Closure, Link, related}
 use Rattle.table.specs.FileSteps.{Findable}
 use Rattle.table.specs.Membership.{judged, membershipOf}
-use Rattle.table.specs.Words.{Builds, Built, Ready, Stored, letterSets}
+use Rattle.table.specs.Words.{Builds, Built, Ready, Stored}
 use Rattle.table.specs.declared.Membership.the-variants.{Refused}
 use Rattle.table.proofs.Building.{explored-built, explored-few, explored-many, explored-stored}
 use Rattle.table.proofs.FileCovers.{built-findable}
@@ -55,7 +55,7 @@ pub valid-few : (file : List ℕ) (c : Counts) → readingOf file ≡ Valid c �
 valid-few file c e = valid-ranges file c e .letters
 
 -- its automaton, once it is built from a place above the sets of the letters on, can be judged
-pub built-ready : {file w : List ℕ} {c : Counts} {base k p : ℕ} → readingOf file ≡ Valid c → Placed w base → letterSets + 256 ≤ base → Indexed c file w → Linked c file w
+pub built-ready : {file w : List ℕ} {c : Counts} {base k p : ℕ} → readingOf file ≡ Valid c → Placed w base → firstSets + 256 ≤ base → Indexed c file w → Linked c file w
     → Built (decoded c file) 256 w base k p → Stored (decoded c file) 256 w k → Findable w k → Ready file c w base k p
 built-ready {file} {w} {c} e place high i l b t f = record {
   few-letters = valid-few file c e;

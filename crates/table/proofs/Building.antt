@@ -19,16 +19,15 @@ use Rattle.automata.specs.Live.{Moves, PlainArc, epsilonClosure, table}
 use Rattle.automata.specs.Unfolding.{configurations, plainAll, plainArcs}
 use Rattle.automata.proofs.Laws.{at-map, at-mem, epsilonClosure-closed, epsilonClosure-iff, first-configuration, getElem?-lt, getElem?-some, iff-trans, in-table, length-rounds, length-table, mem-at, run-below, within}
 use Rattle.table_explore.specs.Explores.{Block, Explores, exploredOf, startOf}
-use Rattle.table_operations.specs.Map.{arcsAt, configs, mapEnd, startsAt}
+use Rattle.word_layout.specs.Layout.{arcsAt, configs, mapEnd, startsAt}
 use Rattle.table_configurations.specs.Tables.{fieldsOf, listed}
 use Rattle.table_configurations.specs.declared.Explored.the-variants.{Tables, TooMany}
-use Rattle.table_configurations.proofs.Laws.{part-same}
 use Rattle.format.specs.Encoding.{letterByte}
 use Rattle.word_fields.specs.Fields.{field}
 use Rattle.word_fields.specs.Frame.{Kept}
-use Rattle.word_fields.proofs.Laws.{field-same}
+use Rattle.word_fields.proofs.Laws.{field-same, part-same}
 use Rattle.word_sets.specs.Sets.{εClosedSet, view}
-use Rattle.word_sets.specs.Rows.{Link, Closure, here, next, related, row}
+use Rattle.word_rows.specs.Rows.{Link, Closure, here, next, related, row}
 use Rattle.word_sets.proofs.Laws.{view-is}
 use Rattle.table_sets.proofs.Laws.{held-each}
 use Rattle.table_sets.specs.Stepping.{Among, endAt, startAt}

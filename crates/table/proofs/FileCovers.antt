@@ -10,7 +10,7 @@ use Rattle.automata.specs.Live.{Moves}
 use Rattle.automata.specs.Performing.{Move, successors}
 use Rattle.automata.specs.Unfolding.{configurations, plainArcs, sameConfiguration}
 use Rattle.automata.proofs.Laws.{distinct, each-at, each-mem, getElem?-lt, moves-from, moves-to, one-number, sameConfiguration-iff, successors-iff, within}
-use Rattle.table_operations.specs.Map.{configs, mapEnd}
+use Rattle.word_layout.specs.Layout.{configs, mapEnd}
 use Rattle.table_operations.specs.Packed.{Hop, hops, pack}
 use Rattle.table_configurations.specs.Tables.{Configured}
 use Rattle.table_operations.proofs.Laws.{Good, Packs, hops-packed, pack-inj, packHop}

@@ -12,7 +12,7 @@ use lib.ListN.{drop, getD}
 use Rattle.automata.specs.Lists.{collect, prepend}
 use Rattle.automata.proofs.Laws.{and-iff, eqb-iff, or-iff}
 use Rattle.table_operations.specs.Arcs.{ArcAt, Indexed, Linked, Walkable, placeOf}
-use Rattle.table_operations.specs.Map.{arcHeads, arcNexts, blockEnd, configs, mapEnd, offsets}
+use Rattle.word_layout.specs.Layout.{arcHeads, arcNexts, blockEnd, configs, mapEnd, offsets}
 use Rattle.table_operations.specs.Packed.{Hop, hop, hopWith, hops, performPacked}
 use Rattle.table_operations.specs.declared.Outcome.{Outcome}
 use Rattle.table_operations.specs.declared.Outcome.the-variants.{Failed, Leaves}
@@ -27,7 +27,7 @@ use Rattle.word_fields.specs.Fields.{field}
 use Rattle.word_fields.specs.Frame.{Kept}
 use Rattle.word_fields.proofs.Laws.{OnChain, chosen, chosen-off, chosen-on, field-same, kept-same, kept-then, last-is, off-chain, on-chain}
 use Rattle.word_sets.specs.Sets.{inSet}
-use Rattle.word_sets.specs.Rows.{related}
+use Rattle.word_rows.specs.Rows.{related}
 use Rattle.table.specs.FileSteps.{Findable, FromFile, Led, Steppable}
 use Rattle.table_sets.specs.Stepping.{Room, setOf}
 use Rattle.table_sets.proofs.Laws.{SameBlock, block-kept, related-kept, room-kept, starts-kept}

@@ -17,7 +17,7 @@ use Rattle.automata.specs.Live.{in?}
 use Rattle.automata.specs.Performing.{Move, successors}
 use Rattle.automata.specs.Unfolding.{configurations, finalSet, sameConfiguration, targetsOf}
 use Rattle.automata.proofs.Laws.{and-iff, at-map, at-mem, at-some, each-at, getElem?-some, known-sound, successors-iff}
-use Rattle.table_operations.specs.Map.{configs}
+use Rattle.word_layout.specs.Layout.{configs}
 use Rattle.table_operations.specs.Packed.{pack}
 use Rattle.table_operations.proofs.Laws.{Good, state-of}
 use Rattle.format.specs.Decoding.{isFinal}

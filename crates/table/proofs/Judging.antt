@@ -19,7 +19,7 @@ use Rattle.format.specs.Decoding.{decoded, isFinal}
 use Rattle.file_fields.specs.Parts.{firstArc, flagBytes}
 use Rattle.file_fields.specs.declared.Counts.{Counts}
 use Rattle.word_sets.specs.Sets.{Within, inSet, view}
-use Rattle.word_sets.specs.Rows.{row}
+use Rattle.word_rows.specs.Rows.{row}
 use Rattle.word_sets.proofs.Laws.{count-none, count-within, meets-view}
 use Rattle.table.specs.Finals.{flagPlace, isFinalIn, stateIn}
 use Rattle.table.specs.Membership.{judged}

@@ -1,6 +1,6 @@
 -- Laws: the laws of this crate that crates above cite. A law that is not named here may change.
--- a built automaton is built still, where words elsewhere were written, and where its listed arcs were pruned
-pub use Rattle.table.proofs.BuiltFrame.{built-kept, built-pruned}
+-- a built automaton is built still where words elsewhere were written
+pub use Rattle.table.proofs.BuiltFrame.{built-kept}
 -- the plain arcs of a configuration stand together: those of source s stand from where s starts to where s + 1 does
 pub use Rattle.table.proofs.PlainPlaces.{before-le, before-rises}
 -- what exploring and then closing the rows leave in the words stands for the automaton

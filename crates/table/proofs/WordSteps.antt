@@ -27,7 +27,8 @@ use Rattle.word_fields.proofs.Laws.{kept-same, kept-then}
 use Rattle.word_sets.specs.Sets.{εClosedSet, Within, view}
 use Rattle.word_sets.proofs.Laws.{empty-set, table-ext}
 use Rattle.table.specs.FileSteps.{Outgoing}
-use Rattle.table.specs.Words.{Built, Stored, letterSets, liveBytes}
+use Rattle.word_layout.specs.Layout.{firstSets}
+use Rattle.table.specs.Words.{Built, Stored, liveBytes}
 
 -- ---- the letter that a byte stands for
 -- a letter's number, where there is one, moved by i
@@ -105,11 +106,11 @@ empty-view k = (table-ext k (λ j h. empty-set j), λ j t. absurd (subst T (empt
 -- whole word leads from set₀
 pub record Walking (x : Automaton) (word w₀ : List ℕ) (base count plain : ℕ) (set₀ w set : List ℕ) (i : ℕ) : Type 0 where
   pub few : i ≤ length word
-  pub kept : Kept letterSets (letterSets + 256) w₀ w
+  pub kept : Kept firstSets (firstSets + 256) w₀ w
   pub live : (L : ℕ) → Built x L w₀ base count plain → Stored x L w₀ count → εClosedSet count (plainArcs x L) set₀ → (liveBytes x L count (view count set₀) word ≡ liveBytes x L count (view count set) (drop i word)) × εClosedSet count (plainArcs x L) set
 
 pub walking-start : (x : Automaton) (word w : List ℕ) (base count plain : ℕ) (set : List ℕ) → Walking x word w base count plain set w set 0
-walking-start x word w base count plain set = record { few = omega arith; kept = kept-same letterSets (letterSets + 256) w; live = λ L b t s. (refl, s) }
+walking-start x word w base count plain set = record { few = omega arith; kept = kept-same firstSets (firstSets + 256) w; live = λ L b t s. (refl, s) }
 
 module _ {x : Automaton} {word w₀ w : List ℕ} {base count plain : ℕ} {set₀ set : List ℕ} {i : ℕ} (v : Walking x word w₀ base count plain set₀ w set i) where
   rest : i < length word → drop i word ≡ getD word i 0 ∷ drop (i + 1) word
@@ -117,7 +118,7 @@ module _ {x : Automaton} {word w₀ w : List ℕ} {base count plain : ℕ} {set�
 
   -- a turn with a letter
   pub walking-more : {file : List ℕ} {c : Counts} {w' next : List ℕ} {l : ℕ} → ((L : ℕ) → Built x L w₀ base count plain → Stored x L w₀ count → Outgoing file c w base count plain (letters x) (plainArcs x L))
-      → letters x ≤ 64 → i < length word → letterNumber (getD word i 0) (x .alphabet) ≡ At l → Kept letterSets (letterSets + 256) w w'
+      → letters x ≤ 64 → i < length word → letterNumber (getD word i 0) (x .alphabet) ≡ At l → Kept firstSets (firstSets + 256) w w'
       → ((letters : ℕ) (arcs : List PlainArc) → Outgoing file c w base count plain letters arcs → letters ≤ 64 → εClosedSet count arcs set → l < letters → (view count next ≡ byLetter count arcs (view count set) l) × εClosedSet count arcs next)
       → Walking x word w₀ base count plain set₀ w' next (i + 1)
   walking-more {l = l} o few h e k f = record {

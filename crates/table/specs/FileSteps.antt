@@ -8,12 +8,12 @@ use lib.Dec.{T}
 use lib.ListN.{drop, getD}
 use Rattle.automata.specs.Live.{PlainArc}
 use Rattle.table_operations.specs.Arcs.{Indexed, Linked, Walkable}
-use Rattle.table_operations.specs.Map.{configs}
+use Rattle.word_layout.specs.Layout.{configs}
 use Rattle.table_operations.specs.Packed.{Hop, hops}
 use Rattle.table_configurations.specs.Tables.{Configured}
 use Rattle.file_fields.specs.Parts.{firstArc}
 use Rattle.file_fields.specs.declared.Counts.{Counts}
-use Rattle.word_sets.specs.Rows.{related}
+use Rattle.word_rows.specs.Rows.{related}
 use Rattle.table_sets.specs.Stepping.{FromList, Held, Room, Starts}
 
 -- one of these passing arcs has letter l, and the row of the configuration that it leads to, one of the `known`, has j

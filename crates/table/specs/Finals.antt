@@ -3,7 +3,7 @@ use mathlib.Core.Bool.{Bool}
 use mathlib.Core.List.{List}
 use Prim.Native.Nat.{_+_, _/_, _^_, ℕ}
 use lib.ListN.{getD}
-use Rattle.table_operations.specs.Map.{configs}
+use Rattle.word_layout.specs.Layout.{configs}
 use Rattle.format.specs.Decoding.{isFinal}
 use Rattle.file_fields.specs.declared.Counts.{Counts}
 

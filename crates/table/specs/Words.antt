@@ -11,19 +11,15 @@ use Rattle.automata.specs.Live.{Moves, liveFrom, table}
 use Rattle.automata.specs.Unfolding.{configurations, plainArcs, spelledOr}
 use Rattle.automata.specs.Words.{spelling}
 use Rattle.table_explore.specs.Explores.{exploredOf}
-use Rattle.table_operations.specs.Map.{configs, mapEnd}
+use Rattle.word_layout.specs.Layout.{configs, mapEnd, firstSets}
 use Rattle.table_operations.specs.Packed.{pack}
 use Rattle.table_configurations.specs.declared.Explored.{Explored}
 use Rattle.table_configurations.specs.declared.Explored.the-variants.{Tables, TooMany}
 use Rattle.format.specs.Decoding.{decoded}
 use Rattle.file_fields.specs.declared.Counts.{Counts}
-use Rattle.word_sets.specs.Rows.{related}
+use Rattle.word_rows.specs.Rows.{related}
 use Rattle.table.specs.FileSteps.{Findable, Steppable}
 use Rattle.table_sets.specs.Stepping.{FromList, Held, Starts}
-
--- where the sets of the letters stand
-abbrev pub letterSets : ℕ
-letterSets = 4480
 
 -- x has k configurations, at most L; its block holds its closed rows and, where they fit, p arcs that
 -- tell its plain arcs
@@ -58,5 +54,5 @@ pub record Ready (file : List ℕ) (c : Counts) (w : List ℕ) (base k p : ℕ) 
   pub formed : WellFormed (decoded c file)
   pub built : Built (decoded c file) 256 w base k p
   pub stored : Stored (decoded c file) 256 w k
-  pub steps : Steppable file c w base letterSets k p
+  pub steps : Steppable file c w base firstSets k p
   pub above : mapEnd ≤ base

@@ -1,14 +1,15 @@
 // The block of an automaton, from the bytes of its file: its configurations, its plain arcs where they fit, and its rows,
 // closed, so that row i has what empty moves lead to from configuration i.
 ghost use Prim.Native.Nat.{_≤_};
+ghost use Rattle.word_fields.specs.Frame.{KeptBut};
 ghost use Rattle.table_operations.specs.Arcs.{Indexed, Linked, Walkable};
-ghost use Rattle.table_operations.specs.Map.{offsets, mapEnd, blockEnd, KeptBut, Placed};
+ghost use Rattle.word_layout.specs.Layout.{offsets, mapEnd, blockEnd, Placed};
 ghost use Rattle.format.specs.Decoding.{decoded};
 ghost use Rattle.table.specs.Words.{Builds};
 use format::Counts;
 use table_explore::Explored;
 use table_explore::walk::explore_all;
-use word_sets::rows::close_rows;
+use word_rows::close_rows;
 
 // The block from `base` on of the automaton whose file has the counts c; or that it has more than 256 configurations. The places of
 // the arcs and their chains are left too.

@@ -9,7 +9,7 @@ ghost use lib.ListN.{drop};
 ghost use Rattle.automata.specs.Lists.{prepend};
 ghost use Rattle.automata.specs.Live.{PlainArc, byLetter};
 ghost use Rattle.table_operations.specs.Arcs.{ArcAt, Indexed, Linked, Walkable};
-ghost use Rattle.table_operations.specs.Map.{mapEnd};
+ghost use Rattle.word_layout.specs.Layout.{mapEnd};
 ghost use Rattle.table_operations.specs.Packed.{hop};
 ghost use Rattle.word_fields.specs.Frame.{Kept};
 ghost use Rattle.word_sets.specs.Sets.{inSet, view, εClosedSet};
@@ -18,16 +18,16 @@ ghost use Rattle.table.specs.FileSteps.{Led, FromFile, Findable};
 use format::Counts;
 use format::fields::byte;
 use table_explore::Outcome;
-use table_explore::map::ARC_HEADS;
-use table_explore::map::ARC_NEXTS;
-use table_explore::map::CONFIG_HEADS;
-use table_explore::map::CONFIG_NEXTS;
-use table_explore::map::CONFIGS;
-use table_explore::map::OFFSETS;
 use table_explore::operations::pass;
 use table_sets::into;
 use word_fields::chains::find_word;
 use word_fields::get16;
+use word_layout::ARC_HEADS;
+use word_layout::ARC_NEXTS;
+use word_layout::CONFIG_HEADS;
+use word_layout::CONFIG_NEXTS;
+use word_layout::CONFIGS;
+use word_layout::OFFSETS;
 
 // The arc at a place of the file, from the configuration `own`: where it has a letter and passes, the row of the configuration that
 // it leads to joins the set of its letter.
@@ -89,7 +89,7 @@ fn visit_file(
     out
 }
 
-// The live set after one more letter, for each letter, as `table_sets::step` leaves it.
+// The live set after one more letter, for each letter, as `compare_step::step` leaves it.
 // Cost: what `take_arc` takes for each arc that leaves the state of a live configuration.
 pub fn step_file(
     file: &[u8],

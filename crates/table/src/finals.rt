@@ -4,11 +4,11 @@ ghost use mathlib.Core.Bool.{_&&_};
 ghost use Prim.Native.Nat.{ℕ, _+_, _≤_, _<_};
 ghost use lib.Dec.{ltb};
 ghost use lib.ListN.{length};
-ghost use Rattle.table_operations.specs.Map.{configs};
+ghost use Rattle.word_layout.specs.Layout.{configs};
 ghost use Rattle.word_sets.specs.Sets.{inSet};
 ghost use Rattle.table.specs.Finals.{stateIn, flagPlace, isFinalIn};
 use format::Counts;
-use table_explore::map::CONFIGS;
+use word_layout::CONFIGS;
 
 // The final ones among the first `known` configurations, of the automaton whose file has the counts c.
 // Cost: one look at each configuration.

@@ -4,7 +4,7 @@ ghost use lib.ListN.{length};
 ghost use Rattle.table.specs.Membership.{membershipOf};
 use block::build;
 use table_explore::Explored;
-use table_explore::map::FIRST_BLOCK;
+use word_layout::FIRST_BLOCK;
 use words::judge_word;
 
 pub mod block;

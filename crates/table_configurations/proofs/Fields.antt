@@ -13,10 +13,10 @@ use Rattle.automata.specs.Lists.{countFrom}
 use Rattle.table_configurations.specs.Tables.{fieldsOf}
 use Rattle.word_fields.specs.Fields.{field}
 use Rattle.word_fields.specs.Frame.{Kept}
-use Rattle.word_sets.specs.Rows.{related, row}
+use Rattle.word_rows.specs.Rows.{related, row}
 use Rattle.word_sets.specs.Sets.{inSet}
 use Rattle.word_fields.proofs.Laws.{field-same}
-use Rattle.word_sets.proofs.Laws.{row-other, row-same}
+use Rattle.word_rows.proofs.Laws.{row-other, row-same}
 
 module _ (f : ℕ → ℕ) where
   count-snoc : (i n : ℕ) → map f (countFrom i (suc n)) ≡ map f (countFrom i n) ++ f (i + n) ∷ []

@@ -9,7 +9,7 @@ use mathlib.Core.Option.{Option, some}
 use native.Mathlib.Omega.{arith}
 use Rattle.automata.specs.Exploration.{add, number}
 use Rattle.automata.specs.Live.{PlainArc}
-use Rattle.table_operations.specs.Map.{Placed, configs}
+use Rattle.word_layout.specs.Layout.{Placed, configs}
 use Rattle.table_configurations.specs.Known.{plainArc}
 use Rattle.table_configurations.specs.Tables.{Tabled}
 use Rattle.word_fields.specs.Chains.{Found, WordAt}

@@ -2,8 +2,6 @@
 -- the plain arcs numbered on the way are those numbered at the end
 unfoldable pub use Rattle.table_configurations.proofs.Numbering.{allNumbered}
 pub use Rattle.table_configurations.proofs.Numbering.{arcsNumbered, next-known, upto-final}
--- laws of words kept but for two parts
-pub use Rattle.table_configurations.proofs.Frames.{but-high, but-low, but-same, but-then, but-wider, part-same}
 -- the tables once a configuration more has its number, once an arc more is noted, and when other words change
 pub use Rattle.table_configurations.proofs.Tabling.{configured-kept, configured-none, tabled-kept, tabled-none}
 -- what is found in the table of configurations is the number that the walk gives, and what meeting one makes of the tables

@@ -1,5 +1,4 @@
 pub mod Numbering
-pub mod Frames
 pub mod Fields
 pub mod Tabling
 pub mod Finding

@@ -15,20 +15,19 @@ use native.Mathlib.Omega.{arith}
 use Rattle.automata.specs.Exploration.{add, number}
 use Rattle.automata.specs.Lists.{countFrom}
 use Rattle.automata.specs.Live.{Moves, PlainArc}
-use Rattle.table_operations.specs.Map.{KeptBut, Placed, arcsAt, configHeads, configNexts, configs, mapEnd, startsAt}
+use Rattle.word_layout.specs.Layout.{Placed, arcsAt, configHeads, configNexts, configs, mapEnd, startsAt}
 use Rattle.table_configurations.specs.Known.{plainArc}
 use Rattle.table_configurations.specs.Tables.{Configured, Tabled, fieldsOf, listed}
 use Rattle.format.specs.Decoding.{letterOf}
 use Rattle.format.specs.Encoding.{letterByte}
 use Rattle.word_fields.specs.Chains.{WordChain, noEntry, slot}
 use Rattle.word_fields.specs.Fields.{field}
-use Rattle.word_fields.specs.Frame.{Kept}
-use Rattle.word_sets.specs.Rows.{related}
+use Rattle.word_fields.specs.Frame.{Kept, KeptBut}
+use Rattle.word_rows.specs.Rows.{related}
 use Rattle.automata.proofs.Laws.{add-new, and-iff, map-append, none-some, or-iff}
 use Rattle.table_configurations.proofs.Fields.{fields-ext, fields-kept, fields-snoc, related-kept}
-use Rattle.table_configurations.proofs.Frames.{but-high, but-low, but-then, part-same}
 use Rattle.table_configurations.proofs.Numbering.{add-distinct}
-use Rattle.word_fields.proofs.Laws.{chain-kept, chain-start, field-same, kept-then, kept-wider}
+use Rattle.word_fields.proofs.Laws.{but-high, but-low, but-then, chain-kept, chain-start, field-same, kept-then, kept-wider, part-same}
 
 -- ---- other words change
 pub configured-kept : {w w′ : List ℕ} {known : ℕ} → ((j : ℕ) → configs ≤ j → j < mapEnd → getD w′ j 0 ≡ getD w j 0) → Configured w known → Configured w′ known

@@ -9,7 +9,7 @@ use mathlib.Core.Option.{Option, none}
 use Rattle.automata.specs.Exploration.{Distinct, add, addAll, number}
 use Rattle.automata.specs.Lists.{countFrom}
 use Rattle.automata.specs.Live.{Moves, PlainArc}
-use Rattle.table_operations.specs.Map.{arcsAt, configHeads, configNexts, configs}
+use Rattle.word_layout.specs.Layout.{arcsAt, configHeads, configNexts, configs}
 use Rattle.table_operations.specs.Packed.{Hop, tos}
 use Rattle.table_configurations.specs.Known.{plainArc, plainsOf}
 use Rattle.table_configurations.specs.declared.Explored.{Explored}
@@ -17,7 +17,7 @@ use Rattle.table_configurations.specs.declared.Explored.the-variants.{Ta
 use Rattle.format.specs.Encoding.{letterByte}
 use Rattle.word_fields.specs.Chains.{WordChain}
 use Rattle.word_fields.specs.Fields.{field}
-use Rattle.word_sets.specs.Rows.{related}
+use Rattle.word_rows.specs.Rows.{related}
 
 -- the first n fields from a place on
 unfoldable pub fieldsOf : List ℕ → ℕ → ℕ → List ℕ

@@ -1,4 +1,4 @@
-// meeting: a passing arc meets a configuration, which gets a number if it has none, and the plain arc is noted.
+// table_configurations: a passing arc meets a configuration, which gets a number if it has none, and the plain arc is noted.
 ghost use mathlib.Core.Path.{_≡_};
 ghost use mathlib.Core.Bool.{cond, _&&_, _||_};
 ghost use mathlib.Core.List.{List, [], _∷_, _++_};
@@ -9,22 +9,22 @@ ghost use Rattle.automata.specs.Exploration.{add, number};
 ghost use Rattle.automata.specs.Live.{PlainArc};
 ghost use Rattle.format.specs.Decoding.{letterOf};
 ghost use Rattle.word_fields.specs.Fields.{field};
-ghost use Rattle.word_fields.specs.Frame.{Kept};
-ghost use Rattle.word_sets.specs.Rows.{related};
-ghost use Rattle.table_operations.specs.Map.{configs, mapEnd, arcsAt, startsAt, Placed, KeptBut};
+ghost use Rattle.word_fields.specs.Frame.{Kept, KeptBut};
+ghost use Rattle.word_rows.specs.Rows.{related};
+ghost use Rattle.word_layout.specs.Layout.{configs, mapEnd, arcsAt, startsAt, Placed};
 ghost use Rattle.table_configurations.specs.Known.{plainArc};
 ghost use Rattle.table_configurations.specs.Tables.{Configured, Tabled, Safe, Met};
 use format::fields::byte;
-use table_operations::map::BLOCK_ARCS;
-use table_operations::map::CONFIG_HEADS;
-use table_operations::map::CONFIG_NEXTS;
-use table_operations::map::CONFIGS;
 use word_fields::chains::add_word;
 use word_fields::chains::find_word;
 use word_fields::put16;
+use word_layout::BLOCK_ARCS;
+use word_layout::CONFIG_HEADS;
+use word_layout::CONFIG_NEXTS;
+use word_layout::CONFIGS;
+use word_rows::load;
+use word_rows::store;
 use word_sets::empty;
-use word_sets::rows::load;
-use word_sets::rows::store;
 use word_sets::with;
 
 // What exploring finds: how many configurations and plain arcs there are, or that there are more than 256 configurations.

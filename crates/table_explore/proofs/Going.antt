@@ -8,11 +8,12 @@ use lib.Seq.{drop-drop, getD-drop}
 use mathlib.Core.List.{List, [], _++_, _∷_, append-assoc, append-nil}
 use mathlib.Core.Option.{none}
 use native.Mathlib.Omega.{arith}
+use Rattle.word_fields.specs.Frame.{KeptBut}
 use Rattle.automata.specs.Exploration.{add, addAll, number}
 use Rattle.automata.specs.Lists.{collect, prepend}
 use Rattle.automata.specs.Live.{PlainArc}
 use Rattle.table_operations.specs.Arcs.{ArcAt, Indexed, Linked, Walkable, placeOf}
-use Rattle.table_operations.specs.Map.{KeptBut, arcHeads, arcNexts, configs, mapEnd, offsets, startsAt}
+use Rattle.word_layout.specs.Layout.{arcHeads, arcNexts, configs, mapEnd, offsets, startsAt}
 use Rattle.table_operations.specs.Packed.{Hop, hop, hopWith, hopsIn, performPacked, tos}
 use Rattle.table_configurations.specs.Known.{plainArc, plainsOf}
 use Rattle.table_configurations.specs.Tables.{Configured, Counted, Met, MetAll, Tabled}
@@ -24,9 +25,8 @@ use Rattle.file_fields.specs.declared.Counts.{Counts}
 use Rattle.word_fields.specs.Chains.{last}
 use Rattle.word_fields.specs.Fields.{field}
 use Rattle.automata.proofs.Laws.{addAll-length}
-use Rattle.table_configurations.proofs.Laws.{but-same, but-then}
 use Rattle.table_operations.proofs.Laws.{entry-at, hops-chosen, hopsOf, stateOf}
-use Rattle.word_fields.proofs.Laws.{OnChain, chosen, chosen-off, chosen-on, field-same, last-is, off-chain, on-chain}
+use Rattle.word_fields.proofs.Laws.{OnChain, but-same, but-then, chosen, chosen-off, chosen-on, field-same, last-is, off-chain, on-chain}
 
 -- with the hops that are left the tables come to be those of `whole` and `list`
 pub record Left (w : List ℕ) (base known plain c : ℕ) (rest : List Hop) (whole : List ℕ) (list : List PlainArc) : Type 0 where

@@ -8,7 +8,7 @@ use native.Mathlib.Omega.{arith}
 use Rattle.automata.specs.Automaton.{Automaton}
 use Rattle.automata.specs.Unfolding.{configurations, plainArcs}
 use Rattle.table_explore.specs.Explores.{Explores, exploredOf, startOf}
-use Rattle.table_operations.specs.Map.{Placed}
+use Rattle.word_layout.specs.Layout.{Placed}
 use Rattle.table_configurations.specs.Known.{knownPacked, plainsUpTo}
 use Rattle.table_operations.specs.Packed.{pack}
 use Rattle.table_configurations.specs.Tables.{Tabled}

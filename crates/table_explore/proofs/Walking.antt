@@ -12,16 +12,16 @@ use native.Mathlib.Nat.{add-suc, add-zero}
 use native.Mathlib.Numerals.{add-one}
 use native.Mathlib.Omega.{arith}
 use Rattle.automata.specs.Exploration.{addAll, known}
-use Rattle.table_operations.specs.Map.{KeptBut, Placed, blockEnd, configs, mapEnd, startsAt}
+use Rattle.word_layout.specs.Layout.{Placed, blockEnd, configs, mapEnd, startsAt}
 use Rattle.table_operations.specs.Packed.{hops, tos}
 use Rattle.table_configurations.specs.Known.{knownPacked, nextPacked, plainsOf, plainsUpTo}
 use Rattle.table_configurations.specs.Tables.{Configured, Counted, MetAll, Tabled}
 use Rattle.table_configurations.specs.declared.Explored.the-variants.{Tables, TooMany}
 use Rattle.word_fields.specs.Fields.{field}
-use Rattle.word_fields.specs.Frame.{Kept}
+use Rattle.word_fields.specs.Frame.{Kept, KeptBut}
 use Rattle.automata.proofs.Laws.{at-none, known-ended, known-long}
-use Rattle.table_configurations.proofs.Laws.{all-at, all-length, but-high, but-same, but-then, but-wider, configured-kept, next-known, placed-kept, tabled-kept}
-use Rattle.word_fields.proofs.Laws.{field-same}
+use Rattle.table_configurations.proofs.Laws.{all-at, all-length, configured-kept, next-known, placed-kept, tabled-kept}
+use Rattle.word_fields.proofs.Laws.{but-high, but-same, but-then, but-wider, field-same}
 
 -- c of the configurations have been walked, those of m arcs at the front of l
 pub record Walking (m : ℕ) (l w₀ : List ℕ) (base : ℕ) (w : List ℕ) (k p c : ℕ) : Type 0 where

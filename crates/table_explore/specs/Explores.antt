@@ -10,13 +10,13 @@ use mathlib.Core.Option.{none}
 use Rattle.automata.specs.Automaton.{Automaton}
 use Rattle.automata.specs.Live.{Moves}
 use Rattle.automata.specs.Unfolding.{configurations, plainAll, plainArcs}
-use Rattle.table_operations.specs.Map.{arcsAt, configs, startsAt}
+use Rattle.word_layout.specs.Layout.{arcsAt, configs, startsAt}
 use Rattle.table_operations.specs.Packed.{pack}
 use Rattle.table_configurations.specs.Tables.{Configured, fieldsOf, listed}
 use Rattle.table_configurations.specs.declared.Explored.{Explored}
 use Rattle.table_configurations.specs.declared.Explored.the-variants.{Tables, TooMany}
 use Rattle.word_fields.specs.Fields.{field}
-use Rattle.word_sets.specs.Rows.{related}
+use Rattle.word_rows.specs.Rows.{related}
 
 -- more than L configurations, or how many there are and how many plain arcs
 unfoldable pub exploredOf : Automaton → ℕ → Explored

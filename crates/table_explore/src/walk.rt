@@ -9,9 +9,9 @@ ghost use Rattle.automata.specs.Automaton.{Automaton};
 ghost use Rattle.format.specs.Decoding.{arcsOf};
 ghost use Rattle.file_fields.specs.Parts.{firstArc};
 ghost use Rattle.word_fields.specs.Fields.{field};
-ghost use Rattle.word_fields.specs.Frame.{Kept};
+ghost use Rattle.word_fields.specs.Frame.{Kept, KeptBut};
 ghost use Rattle.table_operations.specs.Arcs.{Walkable, Indexed, Linked};
-ghost use Rattle.table_operations.specs.Map.{offsets, configs, mapEnd, arcsAt, startsAt, blockEnd, Placed, KeptBut};
+ghost use Rattle.word_layout.specs.Layout.{offsets, configs, mapEnd, arcsAt, startsAt, blockEnd, Placed};
 ghost use Rattle.table_operations.specs.Packed.{hopsIn};
 ghost use Rattle.table_configurations.specs.Tables.{Configured, Tabled, Safe, MetAll};
 ghost use Rattle.table_explore.specs.Explores.{Explores};
@@ -23,16 +23,16 @@ use table_configurations::arrive;
 use table_operations::Outcome;
 use table_operations::arcs::index_arcs;
 use table_operations::arcs::link_arcs;
-use table_operations::map::ARC_HEADS;
-use table_operations::map::ARC_NEXTS;
-use table_operations::map::BLOCK_STARTS;
-use table_operations::map::CONFIG_HEADS;
-use table_operations::map::CONFIGS;
-use table_operations::map::OFFSETS;
 use table_operations::operations::operate_at;
 use word_fields::fill;
 use word_fields::get16;
 use word_fields::put16;
+use word_layout::ARC_HEADS;
+use word_layout::ARC_NEXTS;
+use word_layout::BLOCK_STARTS;
+use word_layout::CONFIG_HEADS;
+use word_layout::CONFIGS;
+use word_layout::OFFSETS;
 
 // Every arc that passes from configuration c, along the chain of its state. The first operation that fails drops the arc: the walk goes
 // on with the next one from inside the loop over the operations (`operations::pass` performs an arc alone).

@@ -8,15 +8,15 @@ use native.Mathlib.Decide.{decLt, ℕ-discrete}
 use native.Mathlib.Omega.{arith}
 use lib.Dec.{T}
 use Rattle.automata.proofs.Laws.{or-iff}
-use Rattle.table_operations.specs.Map.{arcsAt}
+use Rattle.word_layout.specs.Layout.{arcsAt, letterHeads, letterNexts}
 use Rattle.word_fields.specs.Chains.{last}
 use Rattle.word_fields.specs.Fields.{field}
 use Rattle.word_fields.proofs.Laws.{OnChain, last-is, off-chain, on-chain}
-use Rattle.word_sets.specs.Rows.{related}
+use Rattle.word_rows.specs.Rows.{related}
 use Rattle.word_sets.specs.Sets.{inSet}
 use Rattle.table_sets.specs.Stepping.{FromList}
 use Rattle.table_sets.proofs.Laws.{Onward}
-use Rattle.table_letters.specs.Lettered.{Followable, LetterChain, Sourced, byteOf, letterHeads, letterNexts, sourceOf}
+use Rattle.table_letters.specs.Lettered.{Followable, LetterChain, Sourced, byteOf, sourceOf}
 
 -- one of the first `upto` listed arcs has the letter l and a live source, and leads to j
 pub record Leading (w : List ℕ) (base : ℕ) (set : List ℕ) (l upto j : ℕ) : Type 0 where

@@ -6,7 +6,8 @@ use native.Mathlib.Omega.{arith}
 use lib.ListN.{getD}
 use Rattle.word_fields.proofs.Laws.{chain-kept, field-same}
 use Rattle.table_sets.proofs.Laws.{SameBlock, arc-kept}
-use Rattle.table_letters.specs.Lettered.{Followable, Lettered, letterHeads, letterNexts, sourceOf, sources}
+use Rattle.word_layout.specs.Layout.{letterHeads, letterNexts, sources}
+use Rattle.table_letters.specs.Lettered.{Followable, Lettered, sourceOf}
 use Rattle.table_letters.proofs.Noting.{sourced-kept}
 
 module _ {w w' : List ℕ} {base : ℕ} (b : SameBlock base w w') (same : (i : ℕ) → sources ≤ i → getD w' i 0 ≡ getD w i 0) where

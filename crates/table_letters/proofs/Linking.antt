@@ -4,13 +4,13 @@ use mathlib.Core.Logic.{inr}
 use mathlib.Core.List.{List}
 use Prim.Native.Nat.{_+_, _/_, _<_, _≤_, ℕ}
 use native.Mathlib.Omega.{arith}
-use Rattle.table_operations.specs.Map.{arcsAt, blockEnd}
+use Rattle.word_layout.specs.Layout.{arcsAt, blockEnd, letterHeads, letterNexts, letteredEnd, sources}
 use Rattle.word_fields.specs.Chains.{Chain, noEntry}
 use Rattle.word_fields.specs.Fields.{Apart, field}
 use Rattle.word_fields.specs.Frame.{Beside, Kept}
 use Rattle.word_fields.proofs.Laws.{beside-kept, chain-kept, chain-start, kept-same, kept-then}
 use Rattle.table_sets.proofs.Laws.{SameBlock, arc-kept, block-kept}
-use Rattle.table_letters.specs.Lettered.{LetterChain, byteOf, letterHeads, letterNexts, letteredEnd, sources}
+use Rattle.table_letters.specs.Lettered.{LetterChain, byteOf}
 
 -- k of the listed arcs have joined
 pub record Linking (w₀ : List ℕ) (base plain : ℕ) (w : List ℕ) (k : ℕ) : Type 0 where

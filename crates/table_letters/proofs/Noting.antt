@@ -13,7 +13,8 @@ use Rattle.word_fields.specs.Frame.{Kept}
 use Rattle.word_fields.proofs.Laws.{kept-same, kept-then, kept-wider}
 use Rattle.table_sets.specs.Stepping.{Starts, endAt, startAt}
 use Rattle.table_sets.proofs.Laws.{SameBlock, end-below, end-kept, start-kept}
-use Rattle.table_letters.specs.Lettered.{Sourced, Stands, letterNexts, sourceOf, sources}
+use Rattle.word_layout.specs.Layout.{letterNexts, sources}
+use Rattle.table_letters.specs.Lettered.{Sourced, Stands, sourceOf}
 
 -- ---- of one configuration: the arcs from `from` to before k have the source c
 pub record NotingOne (w₀ : List ℕ) (from to c : ℕ) (w : List ℕ) (k : ℕ) : Type 0 where

@@ -3,25 +3,12 @@ use mathlib.Core.Path.{_≡_}
 use mathlib.Core.List.{List}
 use Prim.Native.Nat.{ℕ, _/_, _≤_, _<_}
 use lib.ListN.{length}
-use Rattle.table_operations.specs.Map.{arcsAt, blockEnd}
+use Rattle.word_layout.specs.Layout.{arcsAt, blockEnd, sources, letterHeads, letterNexts, letteredEnd}
 use Rattle.word_fields.specs.Chains.{Chain}
 use Rattle.word_fields.specs.Fields.{field}
 use Rattle.table_sets.specs.Stepping.{endAt, startAt}
 
--- the source of each listed arc, 2,048 fields; the chains of the arcs by their letter's byte: 2,048 next fields and 256 heads. They take
--- the place of the second block, which comparing alone needs
-abbrev pub sources : ℕ
-sources = 6592
-
-abbrev pub letterNexts : ℕ
-letterNexts = 7104
-
-abbrev pub letterHeads : ℕ
-letterHeads = 7616
-
-abbrev pub letteredEnd : ℕ
-letteredEnd = 7680
-
+-- the source of listed arc k
 abbrev pub sourceOf : List ℕ → ℕ → ℕ
 sourceOf w k = field w sources k
 

@@ -1,29 +1,25 @@
-// letter_chains: the listed plain arcs of a block found by their letter, so that a step by one letter looks at the arcs with that letter
+// table_letters: the listed plain arcs of a block found by their letter, so that a step by one letter looks at the arcs with that letter
 // alone. Each listed arc has its source, and is in the chain of its letter's byte.
 ghost use mathlib.Core.Path.{_≡_};
 ghost use mathlib.Core.List.{List};
 ghost use Prim.Native.Nat.{ℕ, _≤_, _<_};
 ghost use lib.ListN.{length};
 ghost use Rattle.automata.specs.Live.{PlainArc, byLetter};
-ghost use Rattle.table_operations.specs.Map.{blockEnd};
+ghost use Rattle.word_layout.specs.Layout.{blockEnd, sources, letterNexts, letteredEnd};
 ghost use Rattle.word_fields.specs.Frame.{Kept};
 ghost use Rattle.word_sets.specs.Sets.{view, εClosedSet};
 ghost use Rattle.table_sets.specs.Stepping.{FromList, Held, Starts};
-ghost use Rattle.table_letters.specs.Lettered.{sources, letterNexts, letteredEnd, sourceOf, LetterChain, Sourced, Followable, Lettered};
-use table_explore::map::BLOCK_ARCS;
-use table_explore::map::BLOCK_STARTS;
+ghost use Rattle.table_letters.specs.Lettered.{sourceOf, LetterChain, Sourced, Followable, Lettered};
 use table_sets::end_of;
 use word_fields::chains::push;
 use word_fields::fill;
 use word_fields::get16;
 use word_fields::put16;
-
-// Where the sources and the chains stand (specs/Lettered.antt).
-const SOURCES: usize = 6592;
-
-const LETTER_NEXTS: usize = 7104;
-
-const LETTER_HEADS: usize = 7616;
+use word_layout::BLOCK_ARCS;
+use word_layout::BLOCK_STARTS;
+use word_layout::LETTER_HEADS;
+use word_layout::LETTER_NEXTS;
+use word_layout::SOURCES;
 
 // The listed arcs from `from` to before `to` have the source c.
 // Cost: one step for each of them.
@@ -97,7 +93,7 @@ pub fn follow(w: &[u64], base: usize, plain: usize, set: [u64; 4], l: usize) -> 
     while k < plain {
         if word_sets::has(set, get16(w, SOURCES, k)) {
             let target = get16(w, base + BLOCK_ARCS, k) % 256;
-            let more = word_sets::union(out, word_sets::rows::load(w, base, target));
+            let more = word_sets::union(out, word_rows::load(w, base, target));
             out = more;
         }
         k = get16(w, LETTER_NEXTS, k);

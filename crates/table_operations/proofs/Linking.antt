@@ -10,7 +10,7 @@ use mathlib.Core.Option.{none}
 use native.Mathlib.Omega.{arith}
 use Rattle.automata.specs.Lists.{collect, prepend}
 use Rattle.table_operations.specs.Arcs.{Indexed, Linked, Walkable, falling, placeOf, places}
-use Rattle.table_operations.specs.Map.{arcHeads, arcNexts, configs, offsets}
+use Rattle.word_layout.specs.Layout.{arcHeads, arcNexts, configs, offsets}
 use Rattle.table_operations.specs.Packed.{Hop, hop, hops}
 use Rattle.file_fields.specs.Parts.{firstArc}
 use Rattle.file_fields.specs.declared.Counts.{Counts}

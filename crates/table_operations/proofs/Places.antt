@@ -10,7 +10,7 @@ use mathlib.Core.List.{List, _∷_}
 use native.Mathlib.Decide.{ℕ-discrete}
 use native.Mathlib.Omega.{arith}
 use Rattle.table_operations.specs.Arcs.{ArcAt, Indexed, Walkable, falling, placeOf, places}
-use Rattle.table_operations.specs.Map.{arcNexts, offsets}
+use Rattle.word_layout.specs.Layout.{arcNexts, offsets}
 use Rattle.format.specs.Placed.{OkArcs, OkOps, whole}
 use Rattle.file_fields.specs.Parts.{arcSize, firstArc}
 use Rattle.file_fields.specs.declared.Counts.{Counts}

@@ -3,7 +3,7 @@ use mathlib.Core.Path.{_≡_}
 use Prim.Native.Nat.{_*_, _+_, _≤_, suc, zero, ℕ}
 use lib.ListN.{drop, getD, length}
 use mathlib.Core.List.{List, [], _∷_}
-use Rattle.table_operations.specs.Map.{arcHeads, arcNexts, offsets}
+use Rattle.word_layout.specs.Layout.{arcHeads, arcNexts, offsets}
 use Rattle.format.specs.Placed.{Lies, OkOps}
 use Rattle.file_fields.specs.Parts.{arcSize, firstArc}
 use Rattle.file_fields.specs.declared.Counts.{Counts}

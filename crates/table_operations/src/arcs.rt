@@ -1,18 +1,18 @@
 // The arcs of a file: their places, and the chains of those that leave the same state.
 ghost use Prim.Native.Nat.{_≤_};
 ghost use lib.ListN.{length};
-ghost use Rattle.table_operations.specs.Map.{offsets, arcNexts, configs};
+ghost use Rattle.word_layout.specs.Layout.{offsets, arcNexts, configs};
 ghost use Rattle.table_operations.specs.Arcs.{Walkable, Indexed, Linked};
 ghost use Rattle.word_fields.specs.Frame.{Kept};
-use super::map::ARC_HEADS;
-use super::map::ARC_NEXTS;
-use super::map::OFFSETS;
 use format::Counts;
 use format::fields::byte;
 use word_fields::chains::push;
 use word_fields::fill;
 use word_fields::get16;
 use word_fields::put16;
+use word_layout::ARC_HEADS;
+use word_layout::ARC_NEXTS;
+use word_layout::OFFSETS;
 
 // The place of each arc, that of the first arc last.
 // Cost: one step for each arc.

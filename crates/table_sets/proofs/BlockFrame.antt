@@ -11,14 +11,14 @@ use lib.ListN.{getD, length}
 use Rattle.automata.specs.Automaton.{stay}
 use Rattle.automata.specs.Live.{PlainArc}
 use Rattle.automata.proofs.Laws.{run-below}
-use Rattle.table_operations.specs.Map.{KeptBut, arcsAt, blockEnd, startsAt}
+use Rattle.word_layout.specs.Layout.{arcsAt, blockEnd, startsAt}
 use Rattle.word_fields.specs.Fields.{field}
-use Rattle.word_fields.specs.Frame.{Kept}
+use Rattle.word_fields.specs.Frame.{Kept, KeptBut}
 use Rattle.word_fields.proofs.Laws.{field-same}
 use Rattle.word_sets.specs.Sets.{inSet}
-use Rattle.word_sets.specs.Rows.{related}
-use Rattle.word_sets.proofs.Laws.{row-same}
-use Rattle.table_sets.specs.Stepping.{Among, Covered, FromList, Held, Reached, Room, Starts, endAt, startAt}
+use Rattle.word_rows.specs.Rows.{related}
+use Rattle.word_rows.proofs.Laws.{row-same}
+use Rattle.table_sets.specs.Stepping.{Among, FromList, Held, Reached, Room, Starts, endAt, startAt}
 
 -- the words of the block are as they were
 pub record SameBlock (base : ℕ) (w w' : List ℕ) : Type 0 where
@@ -100,14 +100,6 @@ module _ {w w' : List ℕ} {base : ℕ} (b : SameBlock base w w') where
       let start : from ≡ startAt w base c = ef ∙ start-kept c (omega (arith, s .few)) in
       let end : to ≡ endAt w base count plain c = et ∙ end-kept count plain c (s .few) in
       rw (← start, ← end) (among-kept from to p j (omega (arith, end, end-few c s)))
-
-  pub covered-kept : {count plain i p j : ℕ} → Starts w base count plain → i < 256 → Covered w base count plain i p j → Covered w' base count plain i p j
-  covered-kept {i = i} {p} {j} s h e = record {
-    source = e .source;
-    below = e .below;
-    near = ⊎-elim (λ q. inl q) (λ t. inr (subst T (sym (related-kept i (e .source) h)) t)) (e .near);
-    leads = (list-kept (e .source) s (e .below) refl refl p j) .1 (e .leads);
-  }
 
 -- what tells each configuration's plain arcs, tells the plain arcs
 pub held-each : {n letters : ℕ} {arcs : List PlainArc} {From : ℕ → ℕ → ℕ → Type 0} → ((a : PlainArc) → List·Memᴰ a arcs → a .target < n)

@@ -9,8 +9,9 @@ use lib.Bits.{bitAnd, bitOr}
 use lib.Dec.{eqb}
 use Rattle.word_fields.specs.Frame.{Kept}
 use Rattle.word_sets.specs.Sets.{bit, inSet}
-use Rattle.word_sets.specs.Rows.{related, row}
-use Rattle.word_sets.proofs.Laws.{bit-with, bit-zero, empty-set, has-bit, row-other}
+use Rattle.word_rows.specs.Rows.{related, row}
+use Rattle.word_sets.proofs.Laws.{bit-with, bit-zero, empty-set, has-bit}
+use Rattle.word_rows.proofs.Laws.{row-other}
 use Rattle.table_sets.specs.Stepping.{setOf}
 
 -- the mask of letter l, as the code makes it

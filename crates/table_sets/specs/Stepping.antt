@@ -10,10 +10,10 @@ use lib.Dec.{T, ltb}
 use lib.ListN.{length}
 use Rattle.automata.specs.Automaton.{Run}
 use Rattle.automata.specs.Live.{Moves, PlainArc}
-use Rattle.table_operations.specs.Map.{arcsAt, blockEnd, startsAt}
+use Rattle.word_layout.specs.Layout.{arcsAt, blockEnd, startsAt}
 use Rattle.word_fields.specs.Fields.{field}
 use Rattle.word_sets.specs.Sets.{bit}
-use Rattle.word_sets.specs.Rows.{related, row}
+use Rattle.word_rows.specs.Rows.{related, row}
 
 -- the set of letter l: row l from acc on where the mask `met` has l, else the empty set
 unfoldable pub setOf : List ℕ → ℕ → ℕ → ℕ → List ℕ
@@ -51,20 +51,6 @@ pub record Held (n letters : ℕ) (arcs : List PlainArc) (From : ℕ → ℕ →
   pub within : (a : PlainArc) → List·Memᴰ a arcs → a .target < n
   pub sound : (s l j : ℕ) → s < n → l < letters → From s l j → Reached arcs s l j
   pub full : (s l j : ℕ) → s < n → l < letters → Reached arcs s l j → (d : ℕ) × Run (Moves arcs) s [] d × From d l j
-
--- the plain arcs that are told by the list of w, whatever they are, are told by the list of w' too, where the rows of w hold ends of runs
--- of empty moves alone
-abbrev pub ToldStill : (w w' : List ℕ) (base count plain left : ℕ) → Type 0
-ToldStill w w' base count plain left =
-    (letters : ℕ) (arcs : List PlainArc) → letters ≤ 64 → ((i j : ℕ) → i < count → T (related w base i j) → Run (Moves arcs) i [] j)
-    → Held count letters arcs (FromList w base count plain) → Held count letters arcs (FromList w' base count left)
-
--- one of the first c configurations, s itself or one in its row, is listed to lead by letter l to j
-pub record Covered (w : List ℕ) (base c plain s l j : ℕ) : Type 0 where
-  pub source : ℕ
-  pub below : source < c
-  pub near : (source ≡ s) ⊎ T (related w base s source)
-  pub leads : FromList w base c plain source l j
 
 -- ---- what a step asks of the words, whatever they stand for
 -- the block and the 64 rows from acc on are there, and share no word

@@ -2,7 +2,7 @@
 use mathlib.Core.Path.{_≡_}
 use mathlib.Core.List.{List, [], _++_}
 use Prim.Native.Nat.{_+_, _-_, _<_, _≤_, ℕ}
-use Rattle.table_operations.specs.Map.{arcsAt}
+use Rattle.word_layout.specs.Layout.{arcsAt}
 use Rattle.format.specs.Encoding.{arcBytes, arcsBytes}
 use Rattle.word_fields.specs.Fields.{field}
 use Rattle.file_writing.proofs.Laws.{arcs-append}

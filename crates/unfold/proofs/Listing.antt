@@ -17,7 +17,7 @@ use Rattle.automata.specs.Performing.{Move, successors}
 use Rattle.automata.specs.Unfolding.{asArc, configurations, plainAll, plainArcs, plainFrom, readZero}
 use Rattle.automata.proofs.Laws.{each-split, map-append, map-map, mem-each}
 use Rattle.table_explore.specs.Explores.{Block, startOf}
-use Rattle.table_operations.specs.Map.{arcsAt}
+use Rattle.word_layout.specs.Layout.{arcsAt}
 use Rattle.table_configurations.specs.Tables.{fieldsOf, listed}
 use Rattle.format.specs.Decoding.{letterOf}
 use Rattle.format.specs.Encoding.{letterByte}

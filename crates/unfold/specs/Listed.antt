@@ -6,7 +6,7 @@ use Rattle.automata.specs.Automaton.{Arc}
 use Rattle.automata.specs.Joins.{arcFrom}
 use Rattle.automata.specs.Lists.{countFrom}
 use Rattle.automata.specs.Unfolding.{readZero}
-use Rattle.table_operations.specs.Map.{arcsAt}
+use Rattle.word_layout.specs.Layout.{arcsAt}
 use Rattle.file_fields.specs.declared.Counts.{Counts}
 use Rattle.format.specs.Decoding.{letterOf}
 use Rattle.word_fields.specs.Fields.{field}

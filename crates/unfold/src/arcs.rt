@@ -1,17 +1,17 @@
 // Arcs: the plain arcs that a block lists, configuration after configuration, written as arcs of a file.
 ghost use Prim.Native.Nat.{_+_, _≤_, _<_};
 ghost use lib.ListN.{length};
-ghost use Rattle.table_operations.specs.Map.{blockEnd};
+ghost use Rattle.word_layout.specs.Layout.{blockEnd};
 ghost use Rattle.format.specs.Encoding.{arcsBytes};
 ghost use Rattle.table_sets.specs.Stepping.{Starts};
 ghost use Rattle.file_writing.specs.Placing.{Appended};
 ghost use Rattle.unfold.specs.Listed.{arcsListed, arcsOfMany};
 use file_arc_writing::Fields;
 use file_arc_writing::write_plain_arc;
-use table_explore::map::BLOCK_ARCS;
-use table_explore::map::BLOCK_STARTS;
 use table_sets::end_of;
 use word_fields::get16;
+use word_layout::BLOCK_ARCS;
+use word_layout::BLOCK_STARTS;
 
 // The arcs listed from number `from` to before `to`, all from the configuration `source`. Cost: their bytes.
 fn write_some(

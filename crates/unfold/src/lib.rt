@@ -10,8 +10,8 @@ ghost use Rattle.unfold.specs.Unfolding.{unfoldingOf};
 use file_writing::Written;
 use result::write_result;
 use table_explore::Explored;
-use table_explore::map::FIRST_BLOCK;
 use table_explore::walk::explore_all;
+use word_layout::FIRST_BLOCK;
 
 mod arcs;
 mod flags;

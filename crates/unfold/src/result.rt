@@ -5,7 +5,7 @@ ghost use lib.ListN.{length};
 ghost use Rattle.automata.specs.Unfolding.{unfolded};
 ghost use Rattle.table_configurations.specs.declared.Explored.the-variants.{Tables};
 ghost use Rattle.table_explore.specs.Explores.{Explores};
-ghost use Rattle.table_operations.specs.Map.{Placed};
+ghost use Rattle.word_layout.specs.Layout.{Placed};
 ghost use Rattle.file_fields.specs.declared.Reading.the-variants.{Valid};
 ghost use Rattle.format.specs.Decoding.{automatonOf};
 ghost use Rattle.format.specs.Encoding.{bytesOf};

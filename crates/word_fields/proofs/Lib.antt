@@ -1,4 +1,5 @@
 pub mod FrameLaws
+pub mod TwoFrames
 pub mod FieldLaws
 pub mod ChainLaws
 pub mod Lookup

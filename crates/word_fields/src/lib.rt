@@ -1,4 +1,4 @@
-// memory: numbers of 16 bits in lent 64-bit words, four to a word; and chains by which entries are found again (chains.rt).
+// word_fields: numbers of 16 bits in lent 64-bit words, four to a word; and chains by which entries are found again (chains.rt).
 ghost use mathlib.Core.Path.{_≡_};
 ghost use mathlib.Core.Bool.{cond};
 ghost use Prim.Native.Nat.{ℕ, _+_, _*_, _/_, _≤_, _<_};

@@ -3,8 +3,4 @@ pub mod SetLaws
 pub mod Tables
 pub mod Views
 pub mod Scanning
-pub mod RowLaws
-pub mod Closing
-pub mod Through
-pub mod Twice
 pub mod Laws

@@ -1,4 +1,4 @@
-// sets: sets of numbers below 256 by value, and rows of them in lent words (rows.rt). Number k is digit `k & 63` of word `k >> 6`.
+// word_sets: sets of numbers below 256 by value. Number k is digit `k & 63` of word `k >> 6`.
 ghost use mathlib.Core.Path.{_≡_};
 ghost use mathlib.Core.Logic.{_↔_};
 ghost use mathlib.Core.Bool.{false, _||_, _&&_};
@@ -6,8 +6,6 @@ ghost use Prim.Native.Nat.{ℕ, _≤_, _<_};
 ghost use lib.Dec.{eqb, T};
 ghost use Rattle.automata.specs.Live.{count};
 ghost use Rattle.word_sets.specs.Sets.{inSet, view, Next};
-
-pub mod rows;
 
 // Is k in the set?
 // Cost: constant.

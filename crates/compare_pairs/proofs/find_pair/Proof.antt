@@ -7,8 +7,8 @@ use Prim.Native.Nat.{_*_, _+_, _%_}
 use lib.Dec.{T}
 use Rattle.word_fields.specs.Fields.{field}
 use Rattle.word_fields.proofs.Laws.{Looked, found-hit, looked-end, looked-more, looked-start}
-use Rattle.word_sets.specs.Rows.{row}
-use Rattle.compare_pairs.specs.Map.{pairHeads}
+use Rattle.word_rows.specs.Rows.{row}
+use Rattle.word_layout.specs.Layout.{pairHeads}
 use Rattle.compare_pairs.specs.Pairs.{PairAt, pairSlot}
 use Rattle.compare_pairs.proofs.Adding.{same-slot}
 use Rattle.compare_pairs.proofs.find_pair.Statement.{statement}

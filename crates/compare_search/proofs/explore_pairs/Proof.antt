@@ -3,7 +3,7 @@ use borrow.Author.Needs.{needs}
 use native.Mathlib.Omega.{arith}
 use Rattle.word_fields.specs.Frame.{Kept}
 use Rattle.word_fields.proofs.Laws.{chain-start, kept-then, kept-wider}
-use Rattle.compare_pairs.specs.Map.{firstBlock}
+use Rattle.word_layout.specs.Layout.{firstBlock}
 use Rattle.compare_pairs.specs.Entries.{begin}
 use Rattle.compare_search.proofs.Frames.{both-kept, ready-kept}
 use Rattle.compare_search.proofs.Walking.{holds-start}

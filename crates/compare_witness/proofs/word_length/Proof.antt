@@ -1,7 +1,7 @@
 -- `compare_witness::word_length` meets its contract. The loop's invariant: the word of pair k and the letters passed make up the whole length.
 use Rattle.compare_witness.proofs.Climbing.{spelled-zero, spelled-length}
 use Rattle.word_fields.specs.Fields.{field}
-use Rattle.compare_pairs.specs.Map.{parents}
+use Rattle.word_layout.specs.Layout.{parents}
 use Rattle.compare_witness.specs.Spelled.{spelled}
 use mathlib.Core.List.{List}
 use lib.ListN.{length}

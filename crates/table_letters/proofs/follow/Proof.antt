@@ -8,7 +8,7 @@ use Prim.Native.Nat.{_%_, _+_, ℕ}
 use native.Mathlib.Omega.{arith}
 use lib.Dec.{T}
 use Rattle.automata.proofs.Laws.{iff-trans}
-use Rattle.word_sets.specs.Rows.{related}
+use Rattle.word_rows.specs.Rows.{related}
 use Rattle.word_sets.specs.Sets.{inSet}
 use Rattle.table_sets.proofs.Laws.{led}
 use Rattle.table_letters.specs.Lettered.{sourceOf}

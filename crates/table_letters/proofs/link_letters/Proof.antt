@@ -3,7 +3,7 @@ use Prim.Native.Nat.{_-_}
 use native.Mathlib.Omega.{arith}
 use Rattle.word_fields.specs.Frame.{Kept}
 use Rattle.word_fields.proofs.Laws.{kept-then, kept-wider}
-use Rattle.table_letters.specs.Lettered.{letterNexts, letteredEnd}
+use Rattle.word_layout.specs.Layout.{letterNexts, letteredEnd}
 use Rattle.table_letters.proofs.Linking.{Linking, linking-end, linking-more, linking-start}
 use Rattle.table_letters.proofs.link_letters.Statement.{statement}
 use Rattle.table_letters.proofs.link_letters.Tie as tie

@@ -5,7 +5,7 @@ use native.Mathlib.Omega.{arith}
 use Rattle.table_explore.specs.Explores.{exploredOf}
 use Rattle.table_configurations.specs.declared.Explored.the-variants.{Tables}
 use Rattle.format.specs.Decoding.{automatonOf}
-use Rattle.compare_pairs.specs.Map.{firstBlock}
+use Rattle.word_layout.specs.Layout.{firstBlock}
 use Rattle.table.specs.Words.{Ready}
 use Rattle.table.proofs.Laws.{ready-flags, valid-few, valid-walkable}
 use Rattle.compare.specs.Answers.{secondTests}

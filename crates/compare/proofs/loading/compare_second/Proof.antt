@@ -10,7 +10,7 @@ use Rattle.table_configurations.specs.declared.Explored.the-variants.{Tables}
 use Rattle.format.specs.Decoding.{automatonOf}
 use Rattle.file_fields.proofs.Laws.{letters-length}
 use Rattle.file_laws.proofs.Laws.{valid-letters, valid-wellFormed}
-use Rattle.compare_pairs.specs.Map.{firstBlock, secondBlock}
+use Rattle.word_layout.specs.Layout.{firstBlock, secondBlock}
 use Rattle.table.specs.Words.{Ready}
 use Rattle.table.proofs.Laws.{ready-flags, valid-few, valid-walkable}
 use Rattle.table_sets.proofs.Laws.{block-but}

@@ -3,10 +3,11 @@ use borrow.Author.Needs.{needs}
 use mathlib.Core.Path.{_≡_, refl, subst}
 use mathlib.Core.Logic.{inl}
 use native.Mathlib.Omega.{arith}
+use Rattle.word_fields.proofs.Laws.{but-high, but-then}
 use Rattle.table_explore.specs.Explores.{Explores}
 use Rattle.table_configurations.specs.declared.Explored.{Explored}
 use Rattle.table_configurations.specs.declared.Explored.the-variants.{Tables, TooMany}
-use Rattle.table_configurations.proofs.Laws.{but-high, but-then, placed-kept}
+use Rattle.table_configurations.proofs.Laws.{placed-kept}
 use Rattle.table_operations.proofs.Laws.{indexed-kept, linked-kept}
 use Rattle.format.specs.Decoding.{decoded}
 use Rattle.table.proofs.Accepting.{builds-tables}

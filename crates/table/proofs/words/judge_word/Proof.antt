@@ -6,14 +6,12 @@ use mathlib.Core.Logic.{inr}
 use mathlib.Core.Bool.{cond}
 use Prim.Native.Nat.{_+_}
 use native.Mathlib.Omega.{arith}
-use Rattle.table_operations.specs.Map.{configs}
+use Rattle.word_layout.specs.Layout.{configs, letteredEnd, firstSets}
 use Rattle.format.specs.Decoding.{decoded}
-use Rattle.table_letters.specs.Lettered.{letteredEnd}
 use Rattle.word_fields.specs.Frame.{Kept}
 use Rattle.word_fields.proofs.Laws.{kept-then, kept-wider}
-use Rattle.word_sets.specs.Rows.{row}
+use Rattle.word_rows.specs.Rows.{row}
 use Rattle.table.specs.Membership.{judged}
-use Rattle.table.specs.Words.{letterSets}
 use Rattle.table.specs.declared.Membership.the-variants.{Accepted, Rejected}
 use Rattle.table.proofs.Building.{row-start, some-configuration, stored-kept}
 use Rattle.table.proofs.BuiltFrame.{built-kept}
@@ -58,7 +56,7 @@ answer c =
     judge-is (a .word .now) (v .walk-word .result) (f .final-set .result) (c .meets .result) (c .before .size .result) (r .built) (r .built .ended) (rw e at (w .0)) (w .1) (ready-finals r (f .final-set .result) (f .final-set .ensures)) (c .meets .ensures) (c .before .size .ensures)
 
 -- which words are as they were
-kept : (v : tie.After-walk-word) → Kept letterSets letteredEnd (v .before .before .before .before .before .before .before .before .before .before .before .before .before .args .w .now) (v .walk-word .last .1 .1 .1 .0)
+kept : (v : tie.After-walk-word) → Kept firstSets letteredEnd (v .before .before .before .before .before .before .before .before .before .before .before .before .before .args .w .now) (v .walk-word .last .1 .1 .1 .0)
 kept v = kept-then (kept-wider (omega arith) (omega arith) (v .before .before .before .before .link .ensures .0)) (kept-wider (omega arith) (omega arith) (v .walk-word .ensures .0))
 
 returns : tie.Need-returns

@@ -5,14 +5,16 @@ use mathlib.Core.Path.{_≡_, refl, subst}
 use mathlib.Core.List.{List}
 use Prim.Native.Nat.{ℕ, _+_, _-_}
 use lib.ListN.{drop, getD}
+use Rattle.word_fields.proofs.Laws.{but-then, but-wider}
+use Rattle.word_fields.specs.Frame.{KeptBut}
 use Rattle.table_operations.specs.Arcs.{Indexed, Linked}
-use Rattle.table_operations.specs.Map.{KeptBut, Placed, blockEnd, configs, mapEnd, offsets}
+use Rattle.word_layout.specs.Layout.{Placed, blockEnd, configs, mapEnd, offsets}
 use Rattle.table_operations.specs.Packed.{hopsIn}
 use Rattle.table_configurations.specs.Tables.{MetAll, Safe}
 use Rattle.table_configurations.specs.declared.Explored.{Explored}
 use Rattle.table_configurations.specs.declared.Explored.the-variants.{Tables, TooMany}
 use Rattle.file_fields.specs.Parts.{firstArc}
-use Rattle.table_configurations.proofs.Laws.{but-then, but-wider, placed-kept}
+use Rattle.table_configurations.proofs.Laws.{placed-kept}
 use Rattle.table_operations.proofs.Laws.{indexed-kept, linked-kept}
 use Rattle.table_explore.proofs.Promise.{explores-all, explores-many}
 use Rattle.table_explore.proofs.Walking.{Noted, Walking, configured-noted, kept-noted, kept-walked, placed-noted, walking-more, walking-over, walking-start}

@@ -6,12 +6,13 @@ use mathlib.Core.Path.{_≡_, _∙_, subst}
 use Prim.Native.Nat.{_+_, _-_, _*_, _%_, _^_}
 use lib.Bits.{and-mask}
 use lib.ListN.{getD}
-use Rattle.table_operations.specs.Map.{configs}
+use Rattle.word_fields.proofs.Laws.{but-then}
+use Rattle.word_layout.specs.Layout.{configs}
 use Rattle.table_configurations.specs.Tables.{Met, Safe}
 use Rattle.table_configurations.specs.declared.Explored.{Explored}
 use Rattle.table_configurations.specs.declared.Explored.the-variants.{Tables, TooMany}
 use Rattle.format.specs.Decoding.{letterOf}
-use Rattle.table_configurations.proofs.Laws.{but-then, placed-kept}
+use Rattle.table_configurations.proofs.Laws.{placed-kept}
 use Rattle.table_explore.proofs.Going.{Going, Turn, arc-here, going-end, going-failed, going-less, going-met, going-over, going-start}
 use Rattle.table_operations.proofs.Laws.{Performing, next-ok, performing-end, performing-failed, performing-more, performing-start}
 use Rattle.table_explore.proofs.walk.explore_one.Statement.{statement}

@@ -3,9 +3,10 @@ use borrow.Author.Needs.{needs}
 use native.Mathlib.Omega.{arith}
 use mathlib.Core.Path.{_∙_, refl}
 use mathlib.Core.List.{[]}
+use Rattle.word_fields.proofs.Laws.{but-low, but-then, but-wider}
 use Rattle.automata.specs.Exploration.{add, has, number}
 use Rattle.automata.specs.Lists.{any}
-use Rattle.table_configurations.proofs.Laws.{but-low, but-then, but-wider, configured-none, placed-kept, tabled-none}
+use Rattle.table_configurations.proofs.Laws.{configured-none, placed-kept, tabled-none}
 use Rattle.table_operations.proofs.Laws.{indexed-kept, linked-kept}
 use Rattle.table_explore.proofs.walk.prepare.Statement.{statement}
 use Rattle.table_explore.proofs.walk.prepare.Tie as tie

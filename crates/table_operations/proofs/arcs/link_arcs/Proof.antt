@@ -3,7 +3,7 @@ use native.Mathlib.Omega.{arith}
 use mathlib.Core.Path.{ap, _∙_}
 use Prim.Native.Nat.{ℕ, _-_}
 use lib.ListN.{getD}
-use Rattle.table_operations.specs.Map.{arcNexts, configs}
+use Rattle.word_layout.specs.Layout.{arcNexts, configs}
 use Rattle.word_fields.specs.Frame.{Kept}
 use Rattle.table_operations.proofs.Places.{entry-at}
 use Rattle.table_operations.proofs.Linking.{Linking, linking-start, linking-more, linking-end, place-kept}

@@ -2,7 +2,7 @@
 use mathlib.Core.List.{_++_}
 use Prim.Native.Nat.{_+_, _-_}
 use native.Mathlib.Omega.{arith}
-use Rattle.table_operations.specs.Map.{arcsAt}
+use Rattle.word_layout.specs.Layout.{arcsAt}
 use Rattle.format.specs.Encoding.{arcBytes, arcsBytes}
 use Rattle.word_fields.specs.Fields.{field}
 use Rattle.file_arc_writing.proofs.Laws.{arc-length}

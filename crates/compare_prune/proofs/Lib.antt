@@ -1,0 +1,4 @@
+pub mod PruneOne
+pub mod PruneAll
+pub mod BuiltPruned
+pub mod Laws

@@ -1,0 +1,61 @@
+// compare_step: from a live set by one more letter, for all letters at once, over the listed plain arcs.
+ghost use mathlib.Core.Path.{_≡_};
+ghost use mathlib.Core.Logic.{_↔_, _⊎_};
+ghost use mathlib.Core.List.{List};
+ghost use Prim.Native.Nat.{ℕ, _+_, _≤_, _<_};
+ghost use lib.Dec.{T};
+ghost use Rattle.automata.specs.Live.{PlainArc, byLetter};
+ghost use Rattle.word_fields.specs.Frame.{Kept};
+ghost use Rattle.word_sets.specs.Sets.{inSet, view, εClosedSet};
+ghost use Rattle.table_sets.specs.Stepping.{setOf, Among, FromList, Held, Room, Starts};
+use table_sets::end_of;
+use table_sets::into;
+use word_layout::BLOCK_ARCS;
+use word_layout::BLOCK_STARTS;
+
+// The listed arcs from `from` to before `to`: the row of each one's target joins the set of its letter. Empty moves are in the
+// rows, and their letter, 255, is no letter's number.
+// Cost: one row for each arc.
+pub fn visit(w: &mut [u64], base: usize, acc: usize, from: usize, to: usize, met: u64) -> u64
+    requires { ⌜ (to ≤ 2048) × Room (now w) base acc ⌝ }
+    ensures kept { λ _. ⌜ Kept acc (acc + 256) (now (w .entry)) (now (w .exit)) ⌝ }
+    ensures set { λ r. ⌜ ((p j : ℕ) → p < 64 → T (inSet (setOf (now (w .exit)) acc r p) j) ↔ (T (inSet (setOf (now (w .entry)) acc met p) j) ⊎ Among (now (w .entry)) base from to p j)) ⌝ }
+{
+    let mut out = met;
+    let mut k = from;
+    while k < to {
+        let arc = word_fields::get16(w, base + BLOCK_ARCS, k);
+        if arc / 256 < 64 {
+            out = into(w, base, acc, arc / 256, arc % 256, out);
+        }
+        k += 1;
+    }
+    out
+}
+
+// The live set after one more letter, for each letter, of a set that no empty move leaves: in the row of that letter from `acc` on, or
+// empty where the mask that is answered lacks it. The arcs of each live configuration are visited once, whatever the number of letters.
+// Cost: one row for each arc of a live configuration.
+pub fn step(
+    w: &mut [u64],
+    base: usize,
+    acc: usize,
+    count: usize,
+    plain: usize,
+    set: [u64; 4],
+) -> u64
+    requires { ⌜ Room (now w) base acc × Starts (now w) base count plain ⌝ }
+    ensures kept { λ _. ⌜ Kept acc (acc + 256) (now (w .entry)) (now (w .exit)) ⌝ }
+    ensures set { λ r. ⌜ ((letters : ℕ) (arcs : List PlainArc) → Held count letters arcs (FromList (now (w .entry)) base count plain) → letters ≤ 64 → εClosedSet count arcs set → (l : ℕ) → l < letters
+        → (view count (setOf (now (w .exit)) acc r l) ≡ byLetter count arcs (view count set) l) × εClosedSet count arcs (setOf (now (w .exit)) acc r l)) ⌝ }
+{
+    let mut met: u64 = 0;
+    let mut c = word_sets::next_live(set, 0);
+    while c < count {
+        let from = word_fields::get16(w, base + BLOCK_STARTS, c);
+        let to = end_of(w, base, count, plain, c);
+        met = visit(w, base, acc, from, to, met);
+        c = word_sets::next_live(set, c + 1);
+    }
+    met
+}

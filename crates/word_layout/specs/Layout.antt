@@ -1,0 +1,88 @@
+-- Layout: where everything stands in the 8,192 lent words, each place once. What an automaton's building, a step and comparing write lies
+-- below the blocks, so that one statement about what is kept keeps both automata. The code has the same places by the same names
+-- (src/lib.rt).
+use Prim.Native.Nat.{ℕ, _+_, _≤_}
+use mathlib.Core.List.{List}
+use lib.ListN.{length}
+
+-- ---- the tables of the building, of one automaton at a time
+-- the place of each arc in the file, 2,048 fields: arc i of m in field m - 1 - i, so that a chain, which falls, is in file order
+abbrev pub offsets : ℕ
+offsets = 2048
+
+-- the chains of arcs by from-state: 2,048 next fields and 256 heads
+abbrev pub arcNexts : ℕ
+arcNexts = 2560
+
+abbrev pub arcHeads : ℕ
+arcHeads = 3072
+
+-- the configurations, 256 words, and the chains that find them: 509 heads and 256 next fields
+abbrev pub configs : ℕ
+configs = 3136
+
+abbrev pub configHeads : ℕ
+configHeads = 3392
+
+abbrev pub configNexts : ℕ
+configNexts = 3520
+
+abbrev pub mapEnd : ℕ
+mapEnd = 3584
+
+-- ---- the pairs of comparing: pair i is rows 2 i and 2 i + 1 of four words each, from word 0 on, for 512 pairs. They take the place of the
+-- building's tables, which are not needed once both automata are built
+-- the parent of each pair and the letter by which it was met, a field of 16 bits: parent times 64 plus letter
+abbrev pub parents : ℕ
+parents = 4096
+
+-- the chains by which pairs are found: 509 heads and 512 next fields, up to the sets of the letters
+abbrev pub pairHeads : ℕ
+pairHeads = 4224
+
+abbrev pub pairNexts : ℕ
+pairNexts = 4352
+
+-- ---- the live sets of all letters that a step leaves, 64 rows: of the first automaton, or the only one, and of the second
+abbrev pub firstSets : ℕ
+firstSets = 4480
+
+abbrev pub secondSets : ℕ
+secondSets = 4736
+
+-- ---- the blocks: of the first automaton, or the only one, and of the second
+abbrev pub firstBlock : ℕ
+firstBlock = 4992
+
+abbrev pub secondBlock : ℕ
+secondBlock = 6592
+
+-- a block: 256 rows of four words, 2,048 plain arcs in fields of 16 bits (letter's byte times 256 plus target), by source, and in
+-- 256 fields where the plain arcs of each source start
+abbrev pub arcsAt : ℕ → ℕ
+arcsAt base = base + 1024
+
+abbrev pub startsAt : ℕ → ℕ
+startsAt base = base + 1536
+
+abbrev pub blockEnd : ℕ → ℕ
+blockEnd base = base + 1600
+
+-- the words are there, and the block stands above the building's tables
+pub record Placed (w : List ℕ) (base : ℕ) : Type 0 where
+  pub above : mapEnd ≤ base
+  pub block : blockEnd base ≤ length w
+
+-- ---- the listed arcs of the only automaton by their letter, in the place of the second block, which comparing alone needs: the source
+-- of each listed arc, 2,048 fields; the chains of the arcs by their letter's byte, 2,048 next fields and 256 heads
+abbrev pub sources : ℕ
+sources = secondBlock
+
+abbrev pub letterNexts : ℕ
+letterNexts = sources + 512
+
+abbrev pub letterHeads : ℕ
+letterHeads = letterNexts + 512
+
+abbrev pub letteredEnd : ℕ
+letteredEnd = letterHeads + 64

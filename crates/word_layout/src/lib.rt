@@ -1,0 +1,42 @@
+// word_layout: where everything stands in the 8,192 lent words, each place once (specs/Layout.antt says what stands there).
+
+// The tables of the building.
+pub const OFFSETS: usize = 2048;
+
+pub const ARC_NEXTS: usize = 2560;
+
+pub const ARC_HEADS: usize = 3072;
+
+pub const CONFIGS: usize = 3136;
+
+pub const CONFIG_HEADS: usize = 3392;
+
+pub const CONFIG_NEXTS: usize = 3520;
+
+// The pairs of comparing.
+pub const PARENTS: usize = 4096;
+
+pub const PAIR_HEADS: usize = 4224;
+
+pub const PAIR_NEXTS: usize = 4352;
+
+// The sets of the letters that a step leaves.
+pub const FIRST_SETS: usize = 4480;
+
+pub const SECOND_SETS: usize = 4736;
+
+// The blocks, and the parts of a block from its first word on.
+pub const FIRST_BLOCK: usize = 4992;
+
+pub const SECOND_BLOCK: usize = 6592;
+
+pub const BLOCK_ARCS: usize = 1024;
+
+pub const BLOCK_STARTS: usize = 1536;
+
+// The listed arcs of the only automaton by their letter.
+pub const SOURCES: usize = 6592;
+
+pub const LETTER_NEXTS: usize = 7104;
+
+pub const LETTER_HEADS: usize = 7616;

@@ -1,0 +1,5 @@
+pub mod RowLaws
+pub mod HeldTwice
+pub mod Warshall
+pub mod ThroughRows
+pub mod Laws
