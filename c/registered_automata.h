@@ -96,6 +96,7 @@ struct ra_reading {
     uint64_t symbols;
     uint64_t arcs;
     uint8_t number;     /* 0, or the file's fault: 1 to 9 */
+    uint8_t automaton;  /* the automaton at fault: 1 where the file has a fault */
 };
 
 /* What ra_accepts answers. */

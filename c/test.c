@@ -141,6 +141,7 @@ static void expect_counts(const char *name, const uint8_t *file, size_t size, co
     printf("ra_read of %s\n", name);
     struct ra_reading r = ra_read(file, size);
     expect("number", r.number, 0);
+    expect("automaton at fault", r.automaton, 0);
     expect("letters", r.letters, counts[0]);
     expect("states", r.states, counts[1]);
     expect("registers", r.registers, counts[2]);
@@ -152,6 +153,7 @@ static void expect_fault(const char *name, const uint8_t *file, size_t size, enu
     printf("ra_read of %s\n", name);
     struct ra_reading r = ra_read(file, size);
     expect("number", r.number, number);
+    expect("automaton at fault", r.automaton, 1);
     expect("all counts together", r.letters + r.states + r.registers + r.symbols + r.arcs, 0);
 }
 

@@ -8,6 +8,7 @@ pub struct Reading {
     pub symbols: u64,
     pub arcs: u64,
     pub number: u8,
+    pub automaton: u8,
 }
 
 #[repr(C)]

@@ -70,7 +70,7 @@ pub enum Comparison {
 /// Refused: 1 to 9.
 pub fn read(file: &[u8]) -> Result<Counts, Refusal> {
     let r = unsafe { engine::ra_read(file.as_ptr(), file.len()) };
-    Refusal::unless(r.number, 1)?;
+    Refusal::unless(r.number, r.automaton)?;
     Ok(Counts {
         letters: r.letters as usize,
         states: r.states as usize,

@@ -1,5 +1,6 @@
 //! `bookshow` on seeded random files, most of them damaged: the fault that its last line tells, and the place, are those of the
-//! plain implementation. It needs the program in target/bin: `rt check bookshow`.
+//! plain implementation. That reading answers them is proved; that the program prints them is tested here. It needs the program
+//! in target/bin: `rt check bookshow`.
 
 mod common;
 

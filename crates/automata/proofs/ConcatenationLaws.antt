@@ -76,15 +76,15 @@ module _ (a b : Automaton) (va : WellFormed a) (vb : WellFormed b) where
   startB : (w : List ℕ) (d : Configuration) → d .state ≡ states a → d .contents ≡ w ++ zeros (b .registers - 1) → Beside (layB w) b (start b) d
   startB w d e f = record { small = vb .some-state; good = own-start b vb; at = e ∙ sym (add-zero (states a)); holds = f ∙ ap (λ (l : List ℕ). w ++ l) (sym (tail-zeros (b .registers))) }
 
+  not-finalA : (s : ℕ) → s < states a → Final u s → ⊥
+  unfolding concatenation
+  not-finalA s h f = falses (states a) s (sym (at-front (replicate (states a) false) (b .finals) s (omega (arith, length-replicate (states a) false))) ∙ f)
+
   finalB : (s : ℕ) → Final u (states a + s) ↔ Final b s
   unfolding concatenation
   finalB s = let e : states a ≡ length (replicate (states a) false) = sym (length-replicate (states a) false) in
       let q : getElem? (u .finals) (states a + s) ≡ getElem? (b .finals) s = ap (λ (n : ℕ). getElem? (u .finals) (n + s)) e ∙ at-back (replicate (states a) false) (b .finals) s in
       (λ f. sym q ∙ f, λ f. q ∙ f)
-
-  not-finalA : (s : ℕ) → s < states a → Final u s → ⊥
-  unfolding concatenation
-  not-finalA s h f = falses (states a) s (sym (at-front (replicate (states a) false) (b .finals) s (omega (arith, length-replicate (states a) false))) ∙ f)
 
   concat-to : (v w : List ℕ) → Accepts a v → Accepts b w → Accepts u (v ++ w)
   concat-to v w s t =

@@ -110,18 +110,22 @@ module _ {X : Type 0} (same : X → X → Bool) (next : X → List X) (start : L
   abbrev at : ℕ → List X
   at n = known same next start n
 
+  walk-distinct : (l : List X) (n : ℕ) → Distinct same l → Distinct same (walk same next l n)
+  unfolding walk
+  walk-distinct l n d = addAll-distinct same l (targets next (getElem? l n)) d
+
   pub known-distinct : Distinct same start → (n : ℕ) → Distinct same (at n)
   unfolding known
   known-distinct d zero = d
-  known-distinct d (suc n) = addAll-distinct same (at n) (targets next (getElem? (at n) n)) (known-distinct d n)
+  known-distinct d (suc n) = walk-distinct (at n) _ (known-distinct d n)
 
   pub step : (n : ℕ) → Step same next (at n) n (at (suc n))
   unfolding known walk
   step n = go (getElem? (at n) n) refl
     where
       go : (o : Option X) → getElem? (at n) n ≡ o → Step same next (at n) n (at (suc n))
-      go none e = ended (getElem?-none (at n) n e) (rw e)
-      go (some x) e = walks x e (rw e)
+      go none e = ended (getElem?-none (at n) n e) (ap (λ (o : Option X). addAll same (at n) (targets next o)) e)
+      go (some x) e = walks x e (ap (λ (o : Option X). addAll same (at n) (targets next o)) e)
 
   pub known-sound : (n : ℕ) {x : X} → List·Memᴰ x (at n) → Reach next start x
   unfolding known

@@ -8,6 +8,7 @@ pub mod Mapped
 pub mod WordLaws
 pub mod LiveLaws
 pub mod UnfoldingLaws
+pub mod PlainArcLaws
 pub mod ReachLaws
 pub mod UnfoldedLaws
 pub mod MembershipLaws

@@ -6,20 +6,20 @@ use Prim.Native.Nat.{_<_, _≤_, ℕ}
 use lib.Dec.{T}
 use lib.ListN.{getElem?, length}
 use mathlib.Core.Bool.{Bool}
-use mathlib.Core.List.{List, List·Memᴰ}
+use mathlib.Core.List.{List, List·Memᴰ, map}
 use mathlib.Core.Option.{Option, some}
 use native.Mathlib.Omega.{arith}
 use Rattle.automata.specs.Automaton.{Automaton, Configuration, DoesAll, Op, Produces, Reachable, Run, WellFormed, letters, start}
 use Rattle.automata.specs.Counting.{Apart, Exactly, MoreThan}
 use Rattle.automata.specs.Examples.{Holds, Row, rows}
-use Rattle.automata.specs.Exploration.{Distinct, Reach, known}
+use Rattle.automata.specs.Exploration.{Distinct, Reach, known, number}
 use Rattle.automata.specs.Joins.{closure, concatenation, intersection, union}
 use Rattle.automata.specs.Languages.{Concatenation, Intersection, Star, Union}
 use Rattle.automata.specs.Live.{count, in?}
 use Rattle.automata.specs.Pairs.{Right, SomePair, pairOf, pairs, verdict}
-use Rattle.automata.specs.Performing.{perform, successors}
+use Rattle.automata.specs.Performing.{Move, perform, successors}
 use Rattle.automata.specs.Search.{Entry, Over, entries, leads}
-use Rattle.automata.specs.Unfolding.{acceptedBytes, configurations, liveCount, liveSet, unfolded}
+use Rattle.automata.specs.Unfolding.{acceptedBytes, configurations, leaving, liveCount, liveSet, plainArcs, sameConfiguration, unfolded}
 use Rattle.automata.specs.Words.{Language, LiveAfter}
 use Rattle.automata.proofs.CountingLaws.{counts-unique, not-more}
 use Rattle.automata.proofs.ExampleLaws.{rows-hold}
@@ -28,6 +28,7 @@ use Rattle.automata.proofs.LanguageLaws.{closure-language, concatenatio
 use Rattle.automata.proofs.ListLaws.{at-mem}
 use Rattle.automata.proofs.MembershipLaws.{acceptedBytes-iff, live-counts, liveCount-counts}
 use Rattle.automata.proofs.PairLaws.{pairs-more}
+use Rattle.automata.proofs.PlainArcLaws.{leaving-passing}
 use Rattle.automata.proofs.PairSets.{live-configuration, same-pair}
 use Rattle.automata.proofs.PerformingLaws.{perform-iff, successors-iff}
 use Rattle.automata.proofs.ReachLaws.{configurations-count, configurations-more}
@@ -81,6 +82,12 @@ reaching = configurations-count
 
 pub reaching-more : (x : Automaton) (L : ℕ) → (L < length (configurations x L)) ↔ MoreThan (Reachable x) L
 reaching-more = configurations-more
+
+-- The plain arcs of configuration number i are its passing arcs, in the order of the file, repeats kept, each with its letter and the
+-- number of the configuration that it leads to (PlainArcLaws): refusal 22 counts them, and an unfolded file lists them.
+pub plain-arcs : (x : Automaton) (L i : ℕ) {c : Configuration} → getElem? (configurations x L) i ≡ some c
+    → leaving i (plainArcs x L) ≡ map (λ (m : Move). record { source = i; letter = m .letter; target = number sameConfiguration (m .to) (configurations x L) }) (successors x c)
+plain-arcs = leaving-passing
 
 module _ (x : Automaton) (L : ℕ) (fits : length (configurations x L) ≤ L) where
   -- Configuration number j is in the live set of w just if a run that spells w ends there (PairSets).

@@ -31,9 +31,11 @@ pub record Automaton : Type 0 where
   pub finals : List Bool
   pub arcs : List Arc
 
+-- how many states there are
 abbrev pub states : Automaton → ℕ
 states x = length (x .finals)
 
+-- how many letters there are
 abbrev pub letters : Automaton → ℕ
 letters x = length (x .alphabet)
 
@@ -76,6 +78,7 @@ pub record Reachable (x : Automaton) (c : Configuration) : Type 0 where
   pub word : List ℕ
   pub run : Run (Produces x) (start x) word c
 
+-- state s is final
 abbrev pub Final : Automaton → ℕ → Type 0
 Final x s = getElem? (x .finals) s ≡ some true
 
@@ -90,6 +93,7 @@ abbrev pub register : Op → ℕ
 register (reads i γ) = i
 register (writes i γ) = i
 
+-- the symbol that an operation reads or writes
 abbrev pub symbol : Op → ℕ
 symbol (reads i γ) = γ
 symbol (writes i γ) = γ
@@ -101,6 +105,7 @@ KeepsZero (reads (suc i) γ) = Unit {0}
 KeepsZero (writes zero γ) = ⊥
 KeepsZero (writes (suc i) γ) = Unit {0}
 
+-- there are a state and a register, no byte is two letters, and arcs and operations stay within what there is
 pub record WellFormed (x : Automaton) : Type 0 where
   pub some-state : 0 < states x
   pub some-register : 0 < x .registers

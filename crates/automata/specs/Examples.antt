@@ -38,15 +38,19 @@ arcsOfV rest = arc 0 0 1 (writes 1 1 ∷ []) ∷ arc 0 1 1 (writes 1 2 ∷ []) �
 abbrev withArcs : List Arc → Automaton
 withArcs arcs = record { alphabet = c ∷ e ∷ m ∷ []; registers = 2; symbols = 3; finals = false ∷ false ∷ true ∷ []; arcs = arcs }
 
+-- T: a word that ends as it began, with any number of m between
 unfoldable pub automatonT : Automaton
 automatonT = withArcs (arcsOfV (arc 1 1 2 (reads 1 2 ∷ []) ∷ []))
 
+-- V: T without its last arc
 unfoldable pub automatonV : Automaton
 automatonV = withArcs (arcsOfV [])
 
+-- K: one letter, which a register lets through once
 unfoldable pub automatonK : Automaton
 automatonK = record { alphabet = c ∷ []; registers = 2; symbols = 2; finals = false ∷ true ∷ []; arcs = arc 0 0 1 (reads 1 0 ∷ writes 1 1 ∷ []) ∷ [] }
 
+-- S: any number of a, and then b
 unfoldable pub automatonS : Automaton
 automatonS = record { alphabet = a ∷ b ∷ []; registers = 1; symbols = 1; finals = false ∷ true ∷ []; arcs = arc 0 0 0 readZero ∷ arc 0 1 1 readZero ∷ [] }
 
@@ -62,6 +66,7 @@ Holds L (rejects x w) = ¬ Language x w
 Holds L (reaches x n) = Exactly (Reachable x) n
 Holds L (unfolds-to x n) = length (plainArcs x L) ≡ n
 
+-- document 01's checked words and automata
 unfoldable pub rows : List Row
 unfolding automatonT automatonV automatonK automatonS concatenation intersection closure
 rows = accepts automatonT (c ∷ c ∷ [])

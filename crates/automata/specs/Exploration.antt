@@ -29,6 +29,7 @@ module _ {X : Type 0} (same : X → X → Bool) where
   unfolding has
   add l x = unlessHad (has x l) l x
 
+  -- all of them at the end, in their order, each if it is new
   unfoldable pub addAll : List X → List X → List X
   unfolding add
   addAll l [] = l

@@ -9,6 +9,7 @@ use Rattle.automata.specs.Lists.{keep, countFrom, sameLetter}
 use Rattle.automata.specs.Automaton.{Op, reads, writes, Arc, Automaton, states}
 use Rattle.automata.specs.Unfolding.{readZero}
 
+-- an arc from s to t with the letter α, or none
 abbrev pub arcFrom : ℕ → Option ℕ → ℕ → List Op → Arc
 arcFrom s α t ops = record { source = s; letter = α; target = t; ops = ops }
 
@@ -25,6 +26,7 @@ abbrev pub movedRegister : ℕ → ℕ → ℕ
 movedRegister k zero = 0
 movedRegister k (suc i) = suc (i + k)
 
+-- an operation on a register that is moved by k
 abbrev pub movedOp : ℕ → Op → Op
 movedOp k (reads i γ) = reads (movedRegister k i) γ
 movedOp k (writes i γ) = writes (movedRegister k i) γ
@@ -67,6 +69,7 @@ unfolding sameLetter
 alike none β = false
 alike (some a) β = sameLetter (some a) β
 
+-- has the arc no letter?
 unfoldable pub isEmptyMove : Option ℕ → Bool
 isEmptyMove none = true
 isEmptyMove (some a) = false
@@ -75,9 +78,11 @@ isEmptyMove (some a) = false
 abbrev pub arcBoth : ℕ → ℕ → Arc → Arc → Arc
 arcBoth n k x y = arcFrom (x .source * n + y .source) (x .letter) (x .target * n + y .target) (x .ops ++ map (movedOp k) (y .ops))
 
+-- an empty move x of a, with the state j of b unmoved
 abbrev pub arcLeft : ℕ → Arc → ℕ → Arc
 arcLeft n x j = arcFrom (x .source * n + j) none (x .target * n + j) (x .ops)
 
+-- an empty move y of b, its registers moved by k, with the state i of a unmoved
 abbrev pub arcRight : ℕ → ℕ → Arc → ℕ → Arc
 arcRight n k y i = arcFrom (i * n + y .source) none (i * n + y .target) (map (movedOp k) (y .ops))
 
@@ -101,6 +106,7 @@ unfoldable pub bothFinal : List Bool → List Bool → List Bool
 bothFinal [] F = []
 bothFinal (x ∷ S) F = map (λ y. x && y) F ++ bothFinal S F
 
+-- arcs in this order: lettered ones of both, empty moves of a, empty moves of b
 unfoldable pub intersection : Automaton → Automaton → Automaton
 unfolding bothFinal bothArcs leftArcs rightArcs
 intersection a b = record {

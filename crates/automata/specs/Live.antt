@@ -14,6 +14,7 @@ pub record PlainArc : Type 0 where
   pub letter : Option ℕ
   pub target : ℕ
 
+-- a plain arc leads from i to j by the letter α, or by ε
 abbrev pub Moves : List PlainArc → ℕ → Option ℕ → ℕ → Type 0
 Moves arcs i α j = List·Memᴰ (record { source = i; letter = α; target = j }) arcs
 
@@ -48,6 +49,7 @@ unfolding any sameLetter
 hit arcs α S j = any (λ a. sameLetter (a .letter) α && eqb (a .target) j && in? S (a .source)) arcs
 
 module _ (k : ℕ) (arcs : List PlainArc) where
+  -- what arcs with the letter α lead to from S
   unfoldable pub step : Option ℕ → List Bool → List Bool
   unfolding table hit
   step α S = table k (hit arcs α S)
@@ -57,6 +59,7 @@ module _ (k : ℕ) (arcs : List PlainArc) where
   unfolding table hit
   once S = table k (λ j. in? S j || hit arcs none S j)
 
+  -- S, and what at most n empty moves lead to from there
   unfoldable pub rounds : ℕ → List Bool → List Bool
   unfolding once
   rounds zero S = S
@@ -72,6 +75,7 @@ module _ (k : ℕ) (arcs : List PlainArc) where
   unfolding epsilonClosure step
   byLetter S a = epsilonClosure (step (some a) S)
 
+  -- from S by a word, letter after letter
   unfoldable pub liveFrom : List Bool → List ℕ → List Bool
   unfolding byLetter
   liveFrom S [] = S

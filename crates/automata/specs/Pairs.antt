@@ -15,10 +15,12 @@ use Rattle.automata.specs.Live.{byLetter, meets}
 use Rattle.automata.specs.Unfolding.{configurations, plainArcs, finalSet, liveSet}
 use Rattle.automata.specs.Search.{Over, Entry, met, entries, firstOf}
 
+-- the live set of a word in the first automaton, and in the second
 pub record Pair : Type 0 where
   pub left : List Bool
   pub right : List Bool
 
+-- are two pairs the same, set by set?
 unfoldable pub samePair : Pair → Pair → Bool
 unfolding sameBy
 samePair p q = sameBy Bool·beq (p .left) (q .left) && sameBy Bool·beq (p .right) (q .right)
@@ -42,6 +44,7 @@ module _ (x y : Automaton) (L : ℕ) where
   unfolding finalSet meets
   firstAccepts p = meets (p .left) (finalSet x (configurations x L))
 
+  -- the same of the second
   unfoldable pub secondAccepts : Pair → Bool
   unfolding finalSet meets
   secondAccepts p = meets (p .right) (finalSet y (configurations y L))
@@ -51,11 +54,12 @@ module _ (x y : Automaton) (L : ℕ) where
   unfolding firstAccepts secondAccepts
   differs p = not (Bool·beq (firstAccepts p) (secondAccepts p))
 
-  -- the pairs in number order, once n of them have been walked; and the same, each with a word that has it
+  -- the pairs in number order, once n of them have been walked
   unfoldable pub pairs : ℕ → List Pair
   unfolding samePair onward pairOf met
   pairs n = met samePair onward (letters x) (pairOf []) n
 
+  -- the same, each with the word by which it was met
   unfoldable pub shown : ℕ → List (Entry Pair)
   unfolding samePair onward pairOf entries
   shown n = entries samePair onward (letters x) (pairOf []) n
@@ -72,15 +76,18 @@ pub data Verdict : Type 0 where
   different : (count taker : ℕ) (word : List ℕ) → Verdict
 
 module _ (x y : Automaton) (L : ℕ) where
+  -- the automaton that accepts the words of a pair that differs
   unfoldable pub takerOf : Pair → ℕ
   unfolding firstAccepts
   takerOf p = cond (firstAccepts x y L p) 1 2
 
+  -- the verdict, by the number of pairs and the first that differs
   unfoldable pub judged : ℕ → Option (Entry Pair) → Verdict
   unfolding takerOf
   judged n none = same n
   judged n (some e) = different n (takerOf (e .state)) (e .word)
 
+  -- the verdict, once P pairs have been walked
   unfoldable pub verdict : ℕ → Verdict
   unfolding judged pairs difference
   verdict P = judged (length (pairs x y L P)) (difference x y L P)

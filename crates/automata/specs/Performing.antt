@@ -10,6 +10,7 @@ use lib.Dec.{eqb, ltb}
 use Rattle.automata.specs.Lists.{only, collect}
 use Rattle.automata.specs.Automaton.{Op, reads, writes, Arc, Automaton, Configuration}
 
+-- does the register contain the symbol?
 abbrev pub holds : Option ℕ → ℕ → Bool
 holds none γ = false
 holds (some x) γ = eqb x γ

@@ -27,12 +27,15 @@ pub record Entry (Q : Type 0) : Type 0 where
   pub state : Q
   pub word : List ℕ
 
+-- the state that the empty word leads to
 abbrev pub origin : {Q : Type 0} → Q → Entry Q
 origin q = record { state = q; word = [] }
 
+-- entries are told apart by their states, not by their words
 abbrev pub sameEntry : {Q : Type 0} → (Q → Q → Bool) → Entry Q → Entry Q → Bool
 sameEntry same e f = same (e .state) (f .state)
 
+-- the entries that one letter more leads to, in letter order
 unfoldable pub nextEntries : {Q : Type 0} → (Q → ℕ → Q) → ℕ → Entry Q → List (Entry Q)
 unfolding countFrom
 nextEntries δ a e = map (λ x. record { state = δ (e .state) x; word = e .word ++ x ∷ [] }) (countFrom 0 a)
@@ -48,6 +51,7 @@ module _ {Q : Type 0} (same : Q → Q → Bool) (δ : Q → ℕ → Q) (a : ℕ)
   unfolding nextEntries known
   entries n = known (sameEntry same) (nextEntries δ a) (origin q₀ ∷ []) n
 
+-- x where the test passes, else what is found later
 abbrev pub thisOr : {A : Type 0} → Bool → A → Option A → Option A
 thisOr true x o = some x
 thisOr false x o = o

@@ -7,17 +7,19 @@ use mathlib.Core.Option.{Option, none, some}
 use mathlib.Core.Bool.{Bool, false, _&&_}
 use lib.Dec.{eqb}
 use lib.ListN.{length}
-use Rattle.automata.specs.Lists.{sameBy}
+use Rattle.automata.specs.Lists.{collect, only, sameBy}
 use Rattle.automata.specs.Automaton.{Op, reads, Arc, Automaton, Configuration, start}
 use Rattle.automata.specs.Words.{spelling}
 use Rattle.automata.specs.Performing.{Move, successors}
 use Rattle.automata.specs.Exploration.{known, number}
 use Rattle.automata.specs.Live.{PlainArc, live, in?, count, meets}
 
+-- are two configurations the same, by state and contents?
 unfoldable pub sameConfiguration : Configuration → Configuration → Bool
 unfolding sameBy
 sameConfiguration c d = eqb (c .state) (d .state) && sameBy eqb (c .contents) (d .contents)
 
+-- the configurations that passing arcs lead to, in the order of the file
 unfoldable pub targetsOf : Automaton → Configuration → List Configuration
 unfolding successors
 targetsOf x c = map (λ m. m .to) (successors x c)
@@ -33,6 +35,7 @@ unfolding number sameConfiguration
 plainFrom all i [] = []
 plainFrom all i (m ∷ ms) = record { source = i; letter = m .letter; target = number sameConfiguration (m .to) all } ∷ plainFrom all i ms
 
+-- the plain arcs that leave the configurations cs, the first of which has the number i
 unfoldable pub plainAll : Automaton → List Configuration → ℕ → List Configuration → List PlainArc
 unfolding plainFrom successors
 plainAll x all i [] = []
@@ -42,6 +45,11 @@ plainAll x all i (c ∷ cs) = plainFrom all i (successors x c) ++ plainAll x all
 unfoldable pub plainArcs : Automaton → ℕ → List PlainArc
 unfolding plainAll configurations
 plainArcs x n = plainAll x (configurations x n) 0 (configurations x n)
+
+-- those that leave configuration number i, in their order
+unfoldable pub leaving : ℕ → List PlainArc → List PlainArc
+unfolding collect
+leaving i arcs = collect (λ (a : PlainArc). only (eqb (a .source) i) a) arcs
 
 -- which of the configurations are final
 unfoldable pub finalSet : Automaton → List Configuration → List Bool
@@ -63,6 +71,7 @@ abbrev pub spelledOr : {A : Type 0} → A → (List ℕ → A) → Option (List 
 spelledOr none-spelled f none = none-spelled
 spelledOr none-spelled f (some w) = f w
 
+-- is the word of bytes accepted?
 unfoldable pub acceptedBytes : Automaton → ℕ → List ℕ → Bool
 unfolding accepted spelling
 acceptedBytes x n s = spelledOr false (accepted x n) (spelling (x .alphabet) s)
@@ -76,9 +85,11 @@ liveCount x n s = spelledOr 0 (λ w. count (liveSet x n w)) (spelling (x .alphab
 abbrev pub readZero : List Op
 readZero = reads 0 0 ∷ []
 
+-- a plain arc as an arc of an automaton
 abbrev pub asArc : PlainArc → Arc
 asArc p = record { source = p .source; letter = p .letter; target = p .target; ops = readZero }
 
+-- a configuration is a state, final where its own state is
 unfoldable pub unfolded : Automaton → ℕ → Automaton
 unfolding plainArcs finalSet
 unfolded x n = record { alphabet = x .alphabet; registers = 1; symbols = 1; finals = finalSet x (configurations x n); arcs = map asArc (plainArcs x n) }

@@ -14,8 +14,13 @@ fn is_readable(file: i32) -> bool {
     libc::read(file, &mut one) >= 0
 }
 
-// Reads the open file to the front of `buffer`, as far as it has room, and closes it.
-fn read_open(file: i32, path: &[u8], buffer: &mut [u8]) -> Loaded {
+// Reads the file of this name to the front of `buffer`, as far as it has room.
+fn load_path(path: &[u8], buffer: &mut [u8]) -> Loaded {
+    let file = os::open_read(path);
+    if file < 0 {
+        os::fail(path);
+        return Loaded::Nothing;
+    }
     let n = io::read_full(file, buffer);
     if n == 0 && !is_readable(file) {
         os::fail(path);
@@ -24,16 +29,6 @@ fn read_open(file: i32, path: &[u8], buffer: &mut [u8]) -> Loaded {
     }
     libc::close(file);
     Loaded::Bytes(n)
-}
-
-// Reads the file of this name to the front of `buffer`, as far as it has room.
-fn load_path(path: &[u8], buffer: &mut [u8]) -> Loaded {
-    let file = os::open_read(path);
-    if file < 0 {
-        os::fail(path);
-        return Loaded::Nothing;
-    }
-    read_open(file, path, buffer)
 }
 
 // Reads the file that an argument names to the front of `buffer`, as far as it has room.
@@ -72,20 +67,15 @@ fn save_path(path: &[u8], bytes: &[u8]) {
     say(1, b"\n");
 }
 
-// The same of the file that an argument names.
-fn save(argument: usize, bytes: &[u8]) {
+// The same of the file that an argument names, and of the first n bytes.
+pub fn save_front(argument: usize, bytes: &[u8], n: usize) {
     let mut path = io::buffer();
     let length = os::arg(argument, &mut path);
     if os::errno() != 0 {
         os::fail(b"file name");
         return;
     }
-    save_path(&path[..length], bytes);
-}
-
-// The same of the first n bytes.
-pub fn save_front(argument: usize, bytes: &[u8], n: usize) {
     if n <= bytes.len() {
-        save(argument, &bytes[0..n]);
+        save_path(&path[..length], &bytes[0..n]);
     }
 }

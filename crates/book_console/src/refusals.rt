@@ -6,7 +6,7 @@ use super::words::say_number;
 use file_writing::Written;
 
 // What a fault of a file, 1 to 9, means.
-fn say_fault(file: i32, number: u8) {
+fn say_fault(file: i32, number: u8) -> bool {
     match number {
         1 => say(file, b"the file ends inside a field"),
         2 => say(file, b"the file does not begin with the mark MLB"),
@@ -30,7 +30,7 @@ fn say_fault(file: i32, number: u8) {
 }
 
 // What a refusal of a call with valid files means.
-fn say_limit(file: i32, number: u8) {
+fn say_limit(file: i32, number: u8) -> bool {
     match number {
         10 => say(file, b"the two files have different letters"),
         11 => say(
@@ -53,11 +53,11 @@ fn say_limit(file: i32, number: u8) {
 }
 
 // What a refusal's number means.
-pub fn say_meaning(file: i32, number: u8) {
+pub fn say_meaning(file: i32, number: u8) -> bool {
     if number >= 1 && number <= 9 {
-        say_fault(file, number);
+        say_fault(file, number)
     } else {
-        say_limit(file, number);
+        say_limit(file, number)
     }
 }
 

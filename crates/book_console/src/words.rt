@@ -1,9 +1,17 @@
 // Words and numbers to an open file, 1 being standard output and 2 standard error; words among the arguments.
 
-pub fn say(file: i32, text: &[u8]) {
-    io::write_all(file, text);
+// Writes the text, and answers whether that passed. That it failed is told on standard error, once: the file is closed then, and
+// that a closed file takes nothing is not told.
+pub fn say(file: i32, text: &[u8]) -> bool {
+    let is_said = io::write_all(file, text);
+    if !is_said && os::errno() != libc::EBADF {
+        os::fail(b"standard output");
+        libc::close(file);
+    }
+    is_said
 }
 
+// A number in decimal. Each line has text behind its numbers, and that text's writing tells what failed.
 pub fn say_number(file: i32, n: u64) {
     io::print_decimal(file, n);
 }

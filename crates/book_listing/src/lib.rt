@@ -1,68 +1,22 @@
-// book_listing: a file told in words, or as a graph in the DOT language, on standard output, as far as it can be read; and the place
-// where reading meets its first fault. The number of that fault is format::read's to say.
+// book_listing: a file told in words, or as a graph in the DOT language, on standard output, up to its first fault. What the fault is
+// and where it stands is format::read's to say: nothing of the file is judged here.
+ghost use mathlib.Core.Path.{_≡_};
 ghost use Prim.Native.Nat.{_<_, _≤_};
 ghost use lib.ListN.{length};
+ghost use Rattle.format.specs.Reading.{readingOf};
 use arcs::show_arcs;
 use book_console::words::say;
 use book_console::words::say_number;
+use file_fields::header::read_counts;
 use format::Counts;
-use format::fields::byte;
-use format::fields::double;
+use format::Reading;
 use parts::show_letters;
 use parts::show_states;
 
 mod arcs;
 mod parts;
 
-// The counts as they stand in the header.
-fn counts(file: &[u8]) -> Counts
-    requires { ⌜ 12 ≤ length (now file) ⌝ }
-    ensures { λ r. ⌜ (r .letters < 256) × (r .states < 65536) ⌝ }
-{
-    let letters = byte(file, 5);
-    let states = double(file, 6);
-    let registers = byte(file, 8);
-    let symbols = byte(file, 9);
-    let arcs = double(file, 10);
-    Counts {
-        letters,
-        states,
-        registers,
-        symbols,
-        arcs,
-    }
-}
-
-// Where the first count out of its range stands; 12 where each is in its range.
-fn count_place(c: Counts) -> usize {
-    if c.letters > 64 {
-        5
-    } else if c.states < 1 || c.states > 256 {
-        6
-    } else if c.registers < 1 || c.registers > 8 {
-        8
-    } else if c.symbols < 1 || c.symbols > 16 {
-        9
-    } else if c.arcs > 2048 {
-        10
-    } else {
-        12
-    }
-}
-
-// Where the mark or the version is not what it must be; 12 where both are.
-fn mark_place(file: &[u8]) -> usize
-    requires { ⌜ 12 ≤ length (now file) ⌝ }
-{
-    if file[0] != b'M' || file[1] != b'L' || file[2] != b'B' {
-        0
-    } else if file[3] != 1 || file[4] != 0 {
-        3
-    } else {
-        12
-    }
-}
-
+// A number, and what it counts.
 fn say_count(n: usize, what: &[u8]) {
     say_number(1, n as u64);
     say(1, what);
@@ -94,45 +48,55 @@ fn show_registers(graph: bool, c: Counts) {
     say_count(c.symbols, b"\narcs:\n");
 }
 
-// Shows what follows the header, and answers the place of its first fault; the file's length where there is none.
-fn show_body(graph: bool, c: Counts, file: &[u8]) -> usize
-    requires { ⌜ (c .letters < 256) × (c .states < 65536) ⌝ }
+// Shows what stands behind the header and in front of the place `end`: of the letters and the flags as many as are there, then the
+// arcs. A part that the file ends inside is not shown.
+fn show_body(graph: bool, c: Counts, file: &[u8], end: usize)
+    requires { ⌜ (c .letters < 256) × (c .states < 65536) × (12 ≤ end) × (end ≤ length (now file)) ⌝ }
 {
     let flags = 12 + c.letters;
     if file.len() < flags {
-        return 12;
+        return;
     }
-    let ascending = show_letters(graph, &file[12..flags]);
-    if ascending < c.letters {
-        return 12 + ascending;
+    if end < flags {
+        show_letters(graph, &file[12..end]);
+        return;
     }
+    show_letters(graph, &file[12..flags]);
     let arcs = flags + c.states;
     if file.len() < arcs {
-        return flags;
+        return;
     }
-    let known = show_states(graph, &file[flags..arcs]);
-    if known < c.states {
-        return flags + known;
+    if end < arcs {
+        show_states(graph, c.states, &file[flags..end]);
+        return;
     }
+    show_states(graph, c.states, &file[flags..arcs]);
     show_registers(graph, c);
-    show_arcs(graph, c, &file[12..flags], file, arcs)
+    show_arcs(graph, &file[12..flags], &file[arcs..end]);
 }
 
-// Shows what can be read of the file, and answers the place where reading meets its first fault; the file's length where it has
-// none. A part that the file ends inside is met where it begins.
-pub fn show(graph: bool, file: &[u8]) -> usize {
-    if file.len() < 12 {
-        return 0;
+// Shows what stands in front of the place `end`. The counts are shown whole where `end` is that of one of them, from byte 5 on.
+fn show_until(graph: bool, file: &[u8], end: usize)
+    requires { ⌜ end ≤ length (now file) ⌝ }
+{
+    if file.len() < 12 || end < 5 {
+        return;
     }
-    let mark = mark_place(file);
-    if mark < 12 {
-        return mark;
-    }
-    let c = counts(file);
+    let c = read_counts(file);
     show_counts(graph, c);
-    let count = count_place(c);
-    if count < 12 {
-        return count;
+    if 12 <= end {
+        show_body(graph, c, file, end);
     }
-    show_body(graph, c, file)
+}
+
+// Shows the file up to its first fault, and answers what reading it answers.
+pub fn show(graph: bool, file: &[u8]) -> Reading
+    ensures { λ r. ⌜ r ≡ readingOf (now (file .entry)) ⌝ }
+{
+    let reading = format::read(file);
+    match reading {
+        Reading::Valid(_) => show_until(graph, file, file.len()),
+        Reading::Refused(_, place) => show_until(graph, file, place),
+    }
+    reading
 }

@@ -1,6 +1,4 @@
-// The letters and the states. Each part is shown up to its first fault.
-ghost use Prim.Native.Nat.{_≤_};
-ghost use lib.ListN.{length};
+// The letters and the states that stand in front of the fault.
 use book_console::words::say;
 use book_console::words::say_number;
 
@@ -15,20 +13,7 @@ pub fn say_letter(letter: u8) {
     say(1, &text);
 }
 
-// How many letters at the front ascend strictly.
-fn ascending_front(letters: &[u8]) -> usize
-    ensures { λ r. ⌜ r ≤ length (now (letters .entry)) ⌝ }
-{
-    let mut i: usize = 0;
-    while i < letters.len() {
-        if i > 0 && letters[i] <= letters[i - 1] {
-            return i;
-        }
-        i += 1;
-    }
-    i
-}
-
+// The letters, each behind a space.
 fn say_letters(letters: &[u8]) {
     let mut i: usize = 0;
     while i < letters.len() {
@@ -38,31 +23,14 @@ fn say_letters(letters: &[u8]) {
     }
 }
 
-// Shows the letters up to the first that is not above the one before it, and answers how many these are.
-pub fn show_letters(graph: bool, letters: &[u8]) -> usize
-    ensures { λ r. ⌜ r ≤ length (now (letters .entry)) ⌝ }
-{
-    let n = ascending_front(letters);
-    if !graph {
-        say(1, b"letters:");
-        say_letters(&letters[0..n]);
-        say(1, b"\n");
+// A line with the letters; a graph has none.
+pub fn show_letters(graph: bool, letters: &[u8]) {
+    if graph {
+        return;
     }
-    n
-}
-
-// How many bytes at the front are final flags.
-fn flags_front(flags: &[u8]) -> usize
-    ensures { λ r. ⌜ r ≤ length (now (flags .entry)) ⌝ }
-{
-    let mut i: usize = 0;
-    while i < flags.len() {
-        if flags[i] > 1 {
-            return i;
-        }
-        i += 1;
-    }
-    i
+    say(1, b"letters:");
+    say_letters(letters);
+    say(1, b"\n");
 }
 
 // A state: in a graph a node, in a listing its number where it is final.
@@ -80,6 +48,7 @@ fn say_state(graph: bool, state: usize, is_final: bool) {
     }
 }
 
+// The states with these flags, from state 0 on.
 fn say_states(graph: bool, flags: &[u8]) {
     let mut i: usize = 0;
     while i < flags.len() {
@@ -88,19 +57,15 @@ fn say_states(graph: bool, flags: &[u8]) {
     }
 }
 
-// Shows the states up to the first whose flag is none, and answers how many these are.
-pub fn show_states(graph: bool, flags: &[u8]) -> usize
-    ensures { λ r. ⌜ r ≤ length (now (flags .entry)) ⌝ }
-{
-    let n = flags_front(flags);
+// The states with these flags: in a listing how many there are in all, and which of these are final.
+pub fn show_states(graph: bool, count: usize, flags: &[u8]) {
     if graph {
-        say_states(true, &flags[0..n]);
-    } else {
-        say(1, b"states: numbers below ");
-        say_number(1, flags.len() as u64);
-        say(1, b", initial 0\nfinal states:");
-        say_states(false, &flags[0..n]);
-        say(1, b"\n");
+        say_states(true, flags);
+        return;
     }
-    n
+    say(1, b"states: numbers below ");
+    say_number(1, count as u64);
+    say(1, b", initial 0\nfinal states:");
+    say_states(false, flags);
+    say(1, b"\n");
 }

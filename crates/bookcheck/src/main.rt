@@ -21,6 +21,7 @@ enum Next {
     End,
 }
 
+// The next byte of standard input, or that there is none.
 fn next_byte() -> Next {
     let mut one = [0u8; 1];
     if io::read_full(0, &mut one) == 0 {
@@ -53,25 +54,20 @@ fn read_line(line: &mut [u8]) -> Line {
     Line::Long
 }
 
-fn say_line(answer: &[u8], live: u64, word: &[u8]) {
+// Writes the line of an answer, and answers whether that passed.
+fn say_line(answer: &[u8], live: u64, word: &[u8]) -> bool {
     say(1, answer);
     say_number(1, live);
     say(1, b" ");
     say(1, word);
-    say(1, b"\n");
+    say(1, b"\n")
 }
 
-// Tells an answer, and whether the run goes on.
+// Tells an answer, and answers whether the run goes on: it ends at a refusal, and where the answer cannot be written.
 fn tell(answer: Membership, word: &[u8]) -> bool {
     match answer {
-        Membership::Accepted(live) => {
-            say_line(b"accepted ", live, word);
-            true
-        }
-        Membership::Rejected(live) => {
-            say_line(b"rejected ", live, word);
-            true
-        }
+        Membership::Accepted(live) => say_line(b"accepted ", live, word),
+        Membership::Rejected(live) => say_line(b"rejected ", live, word),
         Membership::Refused(number, automaton) => {
             tell_refusal(number, automaton, 1, 1);
             false
@@ -128,6 +124,7 @@ fn run_on(file: &[u8], n: usize, line: &mut [u8], work: &mut [u64]) {
     }
 }
 
+// bookcheck FILE.
 fn main() {
     if os::arg_count() != 2 {
         say(2, b"usage: bookcheck FILE\n");

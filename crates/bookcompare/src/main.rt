@@ -24,10 +24,13 @@ fn load(path: &[u8], buffer: &mut [u8]) -> usize
     n
 }
 
-// Compares two files and writes the line. What comparing answers, and the line of it, are compare_lines'.
+// Compares two files and writes the line. What comparing answers, and the line of it, are line_comparison's. That the line cannot be
+// written is told on standard error.
 fn tell(first: &[u8], second: &[u8], line: &mut [u8]) {
     let n = line_comparison::comparison_line(first, second, line);
-    io::write_all(1, &line[0..n]);
+    if !io::write_all(1, &line[0..n]) {
+        os::fail(b"standard output");
+    }
 }
 
 // No line has more than 1,036 bytes, as the contract of comparison_line says: none is cut.

@@ -52,6 +52,7 @@ fn run_one(first: &[u8], a: usize, out: &mut [u8]) {
     finish(answer, out, 2, 2, 3);
 }
 
+// Joins the two files that are named, by the operation with this number.
 fn join_two(operation: u8, out: &mut [u8]) {
     let mut first = [0u8; 41293];
     let mut second = [0u8; 41293];
@@ -64,6 +65,7 @@ fn join_two(operation: u8, out: &mut [u8]) {
     run_two(operation, &first, a, &second, b, out);
 }
 
+// Closes the file that is named.
 fn close_one(out: &mut [u8]) {
     let mut first = [0u8; 41293];
     let Loaded::Bytes(a) = load(2, &mut first) else {

@@ -7,7 +7,9 @@ use book_console::refusals::say_meaning;
 use book_console::words::is_argument;
 use book_console::words::say;
 use book_console::words::say_number;
+use format::Reading;
 
+// The line of a fault: its number, its place and what it means.
 fn say_fault(file: i32, number: u8, place: usize) {
     say(file, b"fault ");
     say_number(file, number as u64);
@@ -19,11 +21,12 @@ fn say_fault(file: i32, number: u8, place: usize) {
 }
 
 // The last line of a listing.
-fn list_end(number: u8, place: usize) {
-    if number == 0 {
-        say(1, b"no fault\n");
-    } else {
-        say_fault(1, number, place);
+fn list_end(reading: Reading) {
+    match reading {
+        Reading::Valid(_) => {
+            say(1, b"no fault\n");
+        }
+        Reading::Refused(number, place) => say_fault(1, number, place),
     }
 }
 
@@ -31,16 +34,18 @@ fn list_end(number: u8, place: usize) {
 fn list(file: &[u8]) {
     say_number(1, file.len() as u64);
     say(1, b" bytes\n");
-    let place = book_listing::show(false, file);
-    list_end(format::read(file).number(), place);
+    list_end(book_listing::show(false, file));
 }
 
 // A fault stands in the graph as a comment; it is told on standard error too, since a graph goes to another program.
-fn draw_end(number: u8, place: usize) {
-    if number != 0 {
-        say(1, b"  // ");
-        say_fault(1, number, place);
-        say_fault(2, number, place);
+fn draw_end(reading: Reading) {
+    match reading {
+        Reading::Valid(_) => {}
+        Reading::Refused(number, place) => {
+            say(1, b"  // ");
+            say_fault(1, number, place);
+            say_fault(2, number, place);
+        }
     }
     say(1, b"}\n");
 }
@@ -51,10 +56,10 @@ fn draw(file: &[u8]) {
         1,
         b"digraph automaton {\n  rankdir=LR;\n  node [shape=circle];\n  start [shape=point];\n  start -> 0;\n",
     );
-    let place = book_listing::show(true, file);
-    draw_end(format::read(file).number(), place);
+    draw_end(book_listing::show(true, file));
 }
 
+// The file that was loaded, the n bytes at the front.
 fn run_on(graph: bool, file: &[u8], n: usize) {
     if file.len() < n {
         return;
@@ -66,6 +71,7 @@ fn run_on(graph: bool, file: &[u8], n: usize) {
     }
 }
 
+// Loads the file named by an argument, and shows it.
 fn run(graph: bool, argument: usize) {
     let mut file = [0u8; 41293];
     let Loaded::Bytes(n) = load(argument, &mut file) else {
@@ -74,6 +80,7 @@ fn run(graph: bool, argument: usize) {
     run_on(graph, &file, n);
 }
 
+// bookshow [--dot] FILE.
 fn main() {
     let count = os::arg_count();
     if count == 3 && is_argument(1, b"--dot") {

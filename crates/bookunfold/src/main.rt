@@ -5,6 +5,7 @@ use book_console::files::load;
 use book_console::refusals::finish;
 use book_console::words::say;
 
+// Unfolds the file, and writes the result or tells the refusal.
 fn run(file: &[u8], work: &mut [u64], out: &mut [u8]) {
     let answer = unfold::unfold(file, work, out);
     finish(answer, out, 1, 1, 2);

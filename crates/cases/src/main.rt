@@ -5,6 +5,23 @@
 // an operation that is none of the eight, which the line `unknown` tells.
 ghost use Prim.Native.Nat.{_<_, _≤_};
 ghost use lib.ListN.{length};
+use file_writing::Written;
+
+// What a record begins with: its operation, the lengths of its first and its second bytes, and how many working words and how many
+// bytes of output or of a word it lends.
+struct Head {
+    operation: u8,
+    first: usize,
+    second: usize,
+    words: usize,
+    bytes: usize,
+}
+
+// The next record, up to its bytes; or that the input ends before or inside that.
+enum Record {
+    Begins(Head),
+    Ends,
+}
 
 // A byte as a number.
 fn wide(x: u8) -> usize
@@ -21,14 +38,6 @@ fn number(head: &[u8; 17], at: usize) -> usize
         + 256 * wide(head[at + 1])
         + 65536 * wide(head[at + 2])
         + 16777216 * wide(head[at + 3])
-}
-
-// Reads n bytes to the front of `buffer`, and answers whether they were there and had room.
-fn fill(buffer: &mut [u8], n: usize) -> bool {
-    if buffer.len() < n {
-        return false;
-    }
-    io::read_full(0, &mut buffer[0..n]) == n
 }
 
 // How many working words an operation lends, by the record's number one.
@@ -48,6 +57,52 @@ fn bytes_lent(operation: u8, one: usize, two: usize) -> usize {
     }
 }
 
+// Reads what the next record begins with.
+fn next_record() -> Record {
+    let mut head = [0u8; 17];
+    if io::read_full(0, &mut head) < 17 {
+        return Record::Ends;
+    }
+    let operation = head[0];
+    let first = number(&head, 1);
+    let second = number(&head, 5);
+    let one = number(&head, 9);
+    let two = number(&head, 13);
+    Record::Begins(Head {
+        operation,
+        first,
+        second,
+        words: words_lent(operation, one),
+        bytes: bytes_lent(operation, one, two),
+    })
+}
+
+// Reads n bytes to the front of `buffer`, and answers whether they were there and had room.
+fn fill(buffer: &mut [u8], n: usize) -> bool {
+    if buffer.len() < n {
+        return false;
+    }
+    io::read_full(0, &mut buffer[0..n]) == n
+}
+
+// Joins or unfolds, on exactly what a record lends; where the operation is neither, that is a refusal with no number.
+fn written(
+    operation: u8,
+    first: &[u8],
+    second: &[u8],
+    work: &mut [u64],
+    out: &mut [u8],
+) -> Written {
+    match operation {
+        3 => join::union(first, second, out),
+        4 => join::concatenate(first, second, out),
+        5 => join::intersect(first, second, out),
+        6 => join::close(first, out),
+        7 => unfold::unfold(first, work, out),
+        _ => Written::Refused(0, 0),
+    }
+}
+
 // Writes the line of one operation on exactly what its record lends, and answers its length; 0 where there is no such operation.
 fn answer(
     operation: u8,
@@ -62,113 +117,73 @@ fn answer(
     match operation {
         1 => line_answers::reading_line(format::read(first), line),
         2 => line_answers::membership_line(table::accepts(first, second, work), line),
-        3 => line_answers::written_line(join::union(first, second, out), out, line),
-        4 => line_answers::written_line(join::concatenate(first, second, out), out, line),
-        5 => line_answers::written_line(join::intersect(first, second, out), out, line),
-        6 => line_answers::written_line(join::close(first, out), out, line),
-        7 => line_answers::written_line(unfold::unfold(first, work, out), out, line),
+        3..=7 => {
+            line_answers::written_line(written(operation, first, second, work, out), out, line)
+        }
         8 => line_comparison::case_line(compare::compare(first, second, work, out), out, line),
         _ => 0,
     }
 }
 
-// Prints the line of one operation, and answers whether the run goes on.
-fn print(
-    operation: u8,
-    first: &[u8],
-    second: &[u8],
-    work: &mut [u64],
-    out: &mut [u8],
-    line: &mut [u8],
-) -> bool {
-    let n = answer(operation, first, second, work, out, line);
-    if n == 0 {
+// Prints a line, where there is one, and answers whether the run goes on.
+fn print(line: &[u8]) -> bool {
+    if line.len() == 0 {
         io::write_all(1, b"unknown\n");
         return false;
     }
-    io::write_all(1, &line[0..n])
+    if !io::write_all(1, line) {
+        os::fail(b"standard output");
+        return false;
+    }
+    true
 }
 
-// Lends the parts of the buffers that a record names, where the buffers are as long; false ends the run.
+// Answers a record on exactly what it lends of the buffers, and prints the line. False ends the run: where a buffer is shorter, there is
+// no such operation, or the line cannot be written.
 fn lend(
-    operation: u8,
+    head: Head,
     first: &[u8],
-    first_length: usize,
     second: &[u8],
-    second_length: usize,
     work: &mut [u64],
-    words: usize,
     out: &mut [u8],
-    bytes: usize,
     line: &mut [u8],
 ) -> bool {
-    if first.len() < first_length {
+    let a = head.first;
+    let b = head.second;
+    let words = head.words;
+    let bytes = head.bytes;
+    if first.len() < a || second.len() < b || work.len() < words || out.len() < bytes {
         return false;
     }
-    if second.len() < second_length {
-        return false;
-    }
-    if work.len() < words {
-        return false;
-    }
-    if out.len() < bytes {
-        return false;
-    }
-    print(
-        operation,
-        &first[0..first_length],
-        &second[0..second_length],
+    let n = answer(
+        head.operation,
+        &first[0..a],
+        &second[0..b],
         &mut work[0..words],
         &mut out[0..bytes],
         line,
-    )
+    );
+    print(&line[0..n])
 }
 
-// Reads one record and answers it; false ends the run.
+// Reads one record and answers it; false ends the run. The buffers are lent as arrays: an array's length asks no proof.
 fn turn(
-    first: &mut [u8],
-    second: &mut [u8],
-    work: &mut [u64],
-    out: &mut [u8],
-    line: &mut [u8],
-) -> bool {
-    let mut head = [0u8; 17];
-    if io::read_full(0, &mut head) < 17 {
-        return false;
-    }
-    let first_length = number(&head, 1);
-    let second_length = number(&head, 5);
-    let words = words_lent(head[0], number(&head, 9));
-    let bytes = bytes_lent(head[0], number(&head, 9), number(&head, 13));
-    if !fill(first, first_length) {
-        return false;
-    }
-    if !fill(second, second_length) {
-        return false;
-    }
-    lend(
-        head[0],
-        first,
-        first_length,
-        second,
-        second_length,
-        work,
-        words,
-        out,
-        bytes,
-        line,
-    )
-}
-
-// The buffers, lent as arrays, become slices here: an array's length asks no proof.
-fn turn_on(
     first: &mut [u8; 41293],
     second: &mut [u8; 41293],
     work: &mut [u64; 8300],
     out: &mut [u8; 60000],
     line: &mut [u8; 120016],
 ) -> bool {
-    turn(first, second, work, out, line)
+    let Record::Begins(head) = next_record() else {
+        return false;
+    };
+    if !fill(first, head.first) {
+        return false;
+    }
+    if !fill(second, head.second) {
+        return false;
+    }
+    lend(head, first, second, work, out, line)
 }
 
 // The buffers are as long as the longest file, word, working memory and output of the cases; `line` holds that output
@@ -180,7 +195,7 @@ fn main() {
     let mut out = [0u8; 60000];
     let mut line = [0u8; 120016];
     let mut turns = u64::MAX;
-    while turns > 0 && turn_on(&mut first, &mut second, &mut work, &mut out, &mut line) {
+    while turns > 0 && turn(&mut first, &mut second, &mut work, &mut out, &mut line) {
         turns -= 1;
     }
 }

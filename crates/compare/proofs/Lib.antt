@@ -1,7 +1,4 @@
-pub mod Refusals
-pub mod Promise
-pub mod ShownBytes
 pub mod Verdicts
-pub mod Found
-pub mod Checking
-pub mod LoadedLaws
+pub mod DecidingLaws
+pub mod Refusals
+pub mod LoadingLaws

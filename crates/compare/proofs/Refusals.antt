@@ -1,44 +1,130 @@
--- Refusals: the tests of comparing decide the conditions of its refusals.
-use mathlib.Core.Logic.{_↔_, _⊎_, inl, inr, ⊎-elim}
-use mathlib.Core.Bool.{_||_}
-use mathlib.Core.List.{List}
-use Prim.Native.Nat.{ℕ, _<_}
+-- Refusals: the refusals of comparing in their order, one test after the other.
+use mathlib.Core.Path.{_≡_, _∙_, ap, refl, sym}
+use mathlib.Core.Logic.{_≢_}
+use mathlib.Core.Bool.{Bool, false, true, _||_}
+use mathlib.Core.List.{List, [], _∷_, _++_}
+use Prim.Native.Nat.{ℕ, _≤_, _<_}
 use native.Mathlib.Omega.{arith}
-use lib.Dec.{T, ltb, ltb→lt, lt→ltb}
+use borrow.Author.Tests.{le-ltb, lt-ltb}
+use lib.Dec.{ltb}
 use lib.ListN.{length}
 use Rattle.automata.specs.Automaton.{Automaton}
-use Rattle.automata.specs.Unfolding.{plainArcs}
-use Rattle.automata.proofs.Laws.{comparing-more, iff-trans, or-iff}
+use Rattle.automata.specs.Unfolding.{configurations, plainArcs}
+use Rattle.table_explore.specs.Explores.{exploredOf}
+use Rattle.table_configurations.specs.declared.Explored.the-variants.{Tables, TooMany}
 use Rattle.format.specs.Decoding.{automatonOf}
-use Rattle.file_laws.proofs.Laws.{Decide, decided, fault-decided, less-decided, less-iff, letters-decided, reach-decided}
-use Rattle.compare.specs.Comparing.{automataTests, tests}
-use Rattle.compare.specs.Promised.{automataConditions, conditions}
+use Rattle.format.specs.Refusals.{unlessRefused}
+use Rattle.file_fields.specs.declared.Counts.{Counts}
+use Rattle.file_pair.specs.Pair.{filesOf, pairRefusals}
+use Rattle.file_pair.specs.declared.Files.the-variants.{Both, Fault}
+use Rattle.file_pair.proofs.Laws.{files-passed, files-refused}
+use Rattle.table.proofs.Laws.{explored-few, explored-many}
+use Rattle.compare.specs.Answers.{Answers}
+use Rattle.compare.specs.Loading.{limitOf}
+use Rattle.compare_promise.specs.Compares.{Compares}
+use Rattle.compare_promise.specs.Comparing.{comparedAt, comparisonOf, countRefusals, limitRefusals, refusals, tableRefusals}
+use Rattle.compare_promise.specs.declared.Comparison.{Comparison}
+use Rattle.compare_promise.specs.declared.Comparison.the-variants.{Refused}
 
-either-less : (k l m n : ℕ) → T (ltb k l || ltb m n) ↔ ((k < l) ⊎ (m < n))
-either-less k l m n = iff-trans (or-iff (ltb k l) (ltb m n)) (⊎-elim (λ t. inl (ltb→lt k l t)) (λ t. inr (ltb→lt m n t)), ⊎-elim (λ t. inl (lt→ltb k l t)) (λ t. inr (lt→ltb m n t)))
+module _ {L P : ℕ} {x y : Automaton} {left : List (Bool × ℕ × ℕ)} where
+  -- a test that does not hold is passed, one that holds gives its refusal
+  pub passed : {old new : List ℕ} {r : Comparison} (b : Bool) (n k : ℕ) → b ≡ false → Answers L P left x y old new r → Answers L P ((b, n, k) ∷ left) x y old new r
+  unfolding unlessRefused
+  passed b n k e a = record { word = a .word; answer = rw e (a .answer); buffer = a .buffer; shown = a .shown }
 
-automata-decided : (x y : Automaton) → Decide (automataTests 256 2048 512 x y) (automataConditions x y)
-unfolding automataTests
-automata-decided x y = (
-  letters-decided x y,
-  (
-    reach-decided x 256 21 1 (omega arith),
-    (
-      less-decided 2048 (length (plainArcs x 256)) 22 1 (omega arith),
-      (
-        reach-decided y 256 21 2 (omega arith),
-        (
-          less-decided 2048 (length (plainArcs y 256)) 22 2 (omega arith),
-          (decided _ 23 0 (iff-trans (less-iff 512 _) (comparing-more x y 256 512)) (λ _. omega arith), tt),
-        ),
-      ),
-    ),
-  ),
-)
+  pub stopped : (b : Bool) (n k : ℕ) (old : List ℕ) → b ≡ true → Answers L P ((b, n, k) ∷ left) x y old old (Refused n k)
+  unfolding unlessRefused
+  stopped b n k old e = record { word = []; answer = rw e; buffer = refl; shown = tt }
 
-pub tests-decide : (first second : List ℕ) (words buffer : ℕ) → Decide (tests 256 2048 512 first second words buffer) (conditions first second words buffer)
-unfolding tests
-tests-decide first second words buffer = (
-  decided _ 24 0 (either-less words 8192 buffer 512) (λ _. omega arith),
-  (fault-decided first 1, (fault-decided second 2, automata-decided (automatonOf first) (automatonOf second))),
-)
+-- ---- 21 and 22 of the automaton z
+module _ (z : Automaton) (L M : ℕ) where
+  -- the number of the refusal, from what exploring answers
+  pub limit-configurations : TooMany ≡ exploredOf z L → 21 ≡ limitOf L M z
+  unfolding limitRefusals unlessRefused
+  limit-configurations e = rw (lt-ltb L (length (configurations z L)) (explored-many z L e))
+
+  pub limit-arcs : {count plain : ℕ} → Tables count plain ≡ exploredOf z L → M < plain → 22 ≡ limitOf L M z
+  unfolding limitRefusals unlessRefused
+  limit-arcs {count} {plain} e h =
+      let f = explored-few z L count plain e in
+      rw (le-ltb L (length (configurations z L)) (f .0), lt-ltb M (length (plainArcs z L)) (omega (arith, f .2)))
+
+  pub limit-none : {count plain : ℕ} → Tables count plain ≡ exploredOf z L → plain ≤ M → 0 ≡ limitOf L M z
+  unfolding limitRefusals unlessRefused
+  limit-none {count} {plain} e h =
+      let f = explored-few z L count plain e in
+      rw (le-ltb L (length (configurations z L)) (f .0), le-ltb M (length (plainArcs z L)) (omega (arith, f .2)))
+
+  module _ {P : ℕ} {x y : Automaton} (left : List (Bool × ℕ × ℕ)) (b : ℕ) {n : ℕ} (is : n ≡ limitOf L M z) where
+    -- it refuses where it is not 0, else what is left answers
+    pub limit-stopped : (old : List ℕ) → n ≢ 0 → Answers L P (limitRefusals L M z b ++ left) x y old old (Refused n b)
+    unfolding limitRefusals unlessRefused
+    limit-stopped old h = go (ltb L (length (configurations z L))) (ltb M (length (plainArcs z L))) is
+      where
+        go : (s t : Bool) → n ≡ unlessRefused (λ n b. n) ((s, 21, 1) ∷ (t, 22, 1) ∷ []) 0 → Answers L P ((s, 21, b) ∷ (t, 22, b) ∷ left) x y old old (Refused n b)
+        go true t e = record { word = []; answer = ap (λ (m : ℕ). Refused m b) e; buffer = refl; shown = tt }
+        go false true e = record { word = []; answer = ap (λ (m : ℕ). Refused m b) e; buffer = refl; shown = tt }
+        go false false e = absurd (h e)
+
+    pub limit-passed : {old new : List ℕ} {r : Comparison} → n ≡ 0 → Answers L P left x y old new r → Answers L P (limitRefusals L M z b ++ left) x y old new r
+    unfolding limitRefusals unlessRefused
+    limit-passed {old} {new} {r} h a = go (ltb L (length (configurations z L))) (ltb M (length (plainArcs z L))) is
+      where
+        go : (s t : Bool) → n ≡ unlessRefused (λ n b. n) ((s, 21, 1) ∷ (t, 22, 1) ∷ []) 0 → Answers L P ((s, 21, b) ∷ (t, 22, b) ∷ left) x y old new r
+        go true t e = absurd (omega arith)
+        go false true e = absurd (omega arith)
+        go false false e = record { word = a .word; answer = a .answer; buffer = a .buffer; shown = a .shown }
+
+-- ---- 21 and 22 of the first, then of the second, at document 01's limits
+module _ {x y : Automaton} {n : ℕ} (one : n ≡ limitOf 256 2048 x) where
+  pub first-stopped : (old : List ℕ) → n ≢ 0 → Answers 256 512 (tableRefusals 256 2048 512 x y) x y old old (Refused n 1)
+  unfolding tableRefusals
+  first-stopped old h = limit-stopped x 256 2048 (limitRefusals 256 2048 y 2 ++ countRefusals 256 512 x y) 1 one old h
+
+  module _ {m : ℕ} (two : m ≡ limitOf 256 2048 y) (h : n ≡ 0) where
+    pub second-stopped : (old : List ℕ) → m ≢ 0 → Answers 256 512 (tableRefusals 256 2048 512 x y) x y old old (Refused m 2)
+    unfolding tableRefusals
+    second-stopped old g = limit-passed x 256 2048 (limitRefusals 256 2048 y 2 ++ countRefusals 256 512 x y) 1 one h (limit-stopped y 256 2048 (countRefusals 256 512 x y) 2 two old g)
+
+    pub both-passed : {old new : List ℕ} {r : Comparison} → m ≡ 0 → Answers 256 512 (countRefusals 256 512 x y) x y old new r → Answers 256 512 (tableRefusals 256 2048 512 x y) x y old new r
+    unfolding tableRefusals
+    both-passed g a = limit-passed x 256 2048 (limitRefusals 256 2048 y 2 ++ countRefusals 256 512 x y) 1 one h (limit-passed y 256 2048 (countRefusals 256 512 x y) 2 two g a)
+
+-- ---- the whole call
+module _ (first second : List ℕ) where
+  abbrev one : Automaton
+  one = automatonOf first
+
+  abbrev two : Automaton
+  two = automatonOf second
+
+  -- the refusals behind 24
+  abbrev pub behindMemory : List (Bool × ℕ × ℕ)
+  behindMemory = pairRefusals first second ++ tableRefusals 256 2048 512 one two
+
+  -- the files: 1 to 9 of the first, of the second, and 10
+  pub files-fault : (old : List ℕ) {n b : ℕ} → filesOf first second ≡ Fault n b → Answers 256 512 behindMemory one two old old (Refused n b)
+  files-fault old e = record { word = []; answer = sym (files-refused first second Refused (tableRefusals 256 2048 512 one two) (comparedAt 256 512 one two []) e); buffer = refl; shown = tt }
+
+  pub files-both : {old new : List ℕ} {r : Comparison} {c d : Counts} → filesOf first second ≡ Both c d → Answers 256 512 (tableRefusals 256 2048 512 one two) one two old new r → Answers 256 512 behindMemory one two old new r
+  files-both e a = record {
+    word = a .word;
+    answer = a .answer ∙ sym (files-passed first second Refused (tableRefusals 256 2048 512 one two) (comparedAt 256 512 one two (a .word)) e);
+    buffer = a .buffer;
+    shown = a .shown;
+  }
+
+  module _ (words : ℕ) (old : List ℕ) where
+    opened : {new : List ℕ} {r : Comparison} → Answers 256 512 ((ltb words 8192 || ltb (length old) 512, 24, 0) ∷ behindMemory) one two old new r → Compares first second words old new r
+    unfolding comparisonOf refusals pairRefusals
+    opened a = record { word = a .word; answer = a .answer; buffer = a .buffer; shown = a .shown }
+
+    -- 24
+    pub words-short : words < 8192 → Compares first second words old old (Refused 24 0)
+    words-short h = opened (stopped _ 24 0 old (rw (lt-ltb words 8192 h)))
+
+    pub buffer-short : 8192 ≤ words → length old < 512 → Compares first second words old old (Refused 24 0)
+    buffer-short g h = opened (stopped _ 24 0 old (rw (le-ltb words 8192 g, lt-ltb (length old) 512 h)))
+
+    pub compares : {new : List ℕ} {r : Comparison} → 8192 ≤ words → 512 ≤ length old → Answers 256 512 behindMemory one two old new r → Compares first second words old new r
+    compares g h a = opened (passed _ 24 0 (rw (le-ltb words 8192 g, le-ltb (length old) 512 h)) a)

@@ -9,24 +9,26 @@ use Rattle.automata.specs.Pairs.{Right, Shows, Verdict, different, pairs, same,
 use Rattle.automata.specs.Unfolding.{acceptedBytes, configurations}
 use Rattle.automata.proofs.Laws.{comparing}
 use Rattle.format.specs.Refusals.{unlessRefused}
-use Rattle.compare.specs.Answers.{Answers, pairTest}
-use Rattle.compare.specs.Compares.{Shown}
-use Rattle.compare.specs.Comparing.{answerAt, comparedAt}
-use Rattle.compare.specs.declared.Comparison.the-variants.{Different, Refused, Same}
-use Rattle.compare.proofs.ShownBytes.{bytes-spell, oneTwo, shown-taker, shows-shown}
+use Rattle.compare.specs.Answers.{Answers}
+use Rattle.compare_promise.specs.Compares.{Shown}
+use Rattle.compare_promise.specs.Comparing.{answerAt, comparedAt, countRefusals}
+use Rattle.compare_promise.specs.declared.Comparison.the-variants.{Different, Refused, Same}
+use Rattle.compare_promise.proofs.Laws.{bytes-spell, oneTwo, shown-taker, shows-shown}
 
 module _ (x y : Automaton) (L P : ℕ) where
-  pub answers-many : (old : List ℕ) → P < length (pairs x y L P) → Answers L P (pairTest L P x y) x y old old (Refused 23 0)
-  unfolding unlessRefused
+  -- there are too many pairs
+  pub answers-many : (old : List ℕ) → P < length (pairs x y L P) → Answers L P (countRefusals L P x y) x y old old (Refused 23 0)
+  unfolding unlessRefused countRefusals
   answers-many old h = record { word = []; answer = rw (lt-ltb P (length (pairs x y L P)) h); buffer = refl; shown = tt }
 
   -- nothing is refused: the verdict tells the answer
   told : (word : List ℕ) (v : Verdict) → length (pairs x y L P) ≤ P → verdict x y L P ≡ v
-      → answerAt v (oneTwo (acceptedBytes x L word)) (length word) ≡ unlessRefused Refused (pairTest L P x y) (comparedAt L P x y word)
-  unfolding unlessRefused comparedAt
+      → answerAt v (oneTwo (acceptedBytes x L word)) (length word) ≡ unlessRefused Refused (countRefusals L P x y) (comparedAt L P x y word)
+  unfolding unlessRefused comparedAt countRefusals
   told word v h e = rw (le-ltb P (length (pairs x y L P)) h, e)
 
-  pub answers-same : (old : List ℕ) (n : ℕ) → length (pairs x y L P) ≤ P → verdict x y L P ≡ same n → Answers L P (pairTest L P x y) x y old old (Same n)
+  -- no pair differs
+  pub answers-same : (old : List ℕ) (n : ℕ) → length (pairs x y L P) ≤ P → verdict x y L P ≡ same n → Answers L P (countRefusals L P x y) x y old old (Same n)
   answers-same old n h e = record { word = []; answer = told [] (same n) h e; buffer = refl; shown = tt }
 
   module _ (vx : WellFormed x) (vy : WellFormed y) (shared : y .alphabet ≡ x .alphabet) (fx : length (configurations x L) ≤ L) (fy : length (configurations y L) ≤ L) (few : length (pairs x y L P) ≤ P) where
@@ -34,8 +36,9 @@ module _ (x y : Automaton) (L P : ℕ) where
     shows : (n taker : ℕ) (v : List ℕ) → verdict x y L P ≡ different n taker v → Shows x y taker v
     shows n taker v e = subst (Right x y L) e (comparing x y L P vx vy (ap length shared) fx fy few) .1
 
+    -- the first pair that differs gives the word
     pub answers-different : (old new : List ℕ) (n taker size : ℕ) (v : List ℕ) → verdict x y L P ≡ different n taker v → size ≡ length v
-        → new ≡ map (λ (l : ℕ). getD (x .alphabet) l 0) v ++ drop size old → Answers L P (pairTest L P x y) x y old new (Different n taker size)
+        → new ≡ map (λ (l : ℕ). getD (x .alphabet) l 0) v ++ drop size old → Answers L P (countRefusals L P x y) x y old new (Different n taker size)
     answers-different old new n taker size v e long put = record {
       word = word;
       answer = sized ∙ told word (different n taker v) few e;

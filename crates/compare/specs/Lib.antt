@@ -1,4 +1,2 @@
-pub mod Comparing
-pub mod Compares
-pub mod Promised
 pub mod Answers
+pub mod Loading

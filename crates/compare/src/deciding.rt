@@ -1,10 +1,12 @@
-// Deciding: two automata that are built, each in its block, compared by the pairs of their live sets.
+// Deciding: two automata that are loaded, each in its block, compared by the pairs of their live sets.
 ghost use mathlib.Core.Path.{_≡_};
 ghost use Prim.Native.Nat.{_≤_};
 ghost use lib.ListN.{length};
 ghost use Rattle.automata.specs.Automaton.{Automaton};
+ghost use Rattle.compare_promise.specs.Comparing.{countRefusals};
 ghost use Rattle.compare_search.specs.Searching.{Ready};
-ghost use Rattle.compare.specs.Answers.{Answers, Comparable, pairTest};
+ghost use Rattle.compare.specs.Answers.{Answers};
+ghost use Rattle.compare.specs.Loading.{Comparable};
 use super::Comparison;
 use compare_pairs::Grown;
 use compare_search::explore_pairs;
@@ -12,25 +14,38 @@ use compare_witness::first_difference;
 use compare_witness::judge_pair;
 use compare_witness::put_word;
 
-// All pairs are explored, whether or not one of them differs, and the first that differs is shown. f and g are the sets of the final
-// configurations; the letters are those of both. Refuses 23: more than 512 pairs.
+// An automaton that stands in its block: the number of its configurations, that of the plain arcs that are listed, and the set of its
+// final configurations.
+pub struct Standing {
+    pub count: usize,
+    pub plain: usize,
+    pub finals: [u64; 4],
+}
+
+// All pairs are explored, whether or not one of them differs, and the first that differs is shown. The letters are those of both.
+// Refuses 23: more than 512 pairs.
 // Cost: for each pair one row for each plain arc of a live configuration, and a look into the table for each letter that is met.
 pub fn decide(
     w: &mut [u64],
-    count1: usize,
-    plain1: usize,
-    f: [u64; 4],
-    count2: usize,
-    plain2: usize,
-    g: [u64; 4],
+    one: Standing,
+    two: Standing,
     letters: &[u8],
     word: &mut [u8],
 ) -> Comparison
-    requires { ⌜ Ready (length (now letters)) (now w) count1 plain1 count2 plain2 × (512 ≤ length (now word)) ⌝ }
+    requires { ⌜ Ready (length (now letters)) (now w) (one .count) (one .plain) (two .count) (two .plain) × (512 ≤ length (now word)) ⌝ }
     ensures same { λ _. ⌜ length (now (w .exit)) ≡ length (now (w .entry)) ⌝ }
-    ensures answers { λ r. ⌜ ((x y : Automaton) → Comparable x y 256 (now (w .entry)) count1 plain1 f count2 plain2 g (now (letters .entry)) → Answers 256 512 (pairTest 256 512 x y) x y (now (word .entry)) (now (word .exit)) r) ⌝ }
+    ensures answers { λ r. ⌜ ((x y : Automaton) → Comparable x y 256 (now (w .entry)) one two (now (letters .entry)) → Answers 256 512 (countRefusals 256 512 x y) x y (now (word .entry)) (now (word .exit)) r) ⌝ }
 {
-    let Grown::Total(n) = explore_pairs(w, letters.len(), count1, plain1, count2, plain2) else {
+    let f = one.finals;
+    let g = two.finals;
+    let Grown::Total(n) = explore_pairs(
+        w,
+        letters.len(),
+        one.count,
+        one.plain,
+        two.count,
+        two.plain,
+    ) else {
         return Comparison::Refused {
             number: 23,
             automaton: 0,

@@ -1,34 +1,80 @@
 // compare: are two automata one rule? (document 01, 'Comparing')
 ghost use mathlib.Core.Path.{_≡_};
+ghost use Prim.Native.Nat.{_≤_};
 ghost use lib.ListN.{length};
-ghost use Rattle.compare.specs.Compares.{Compares};
-use join_parts::files::Files;
-use join_parts::files::read_files;
-use loading::compare_files;
+ghost use Rattle.file_pair.specs.Pair.{Joinable};
+ghost use Rattle.compare_promise.specs.Comparing.{tableRefusals};
+ghost use Rattle.compare_promise.specs.Compares.{Compares};
+pub use compare_promise::Comparison;
+ghost use Rattle.compare.specs.Answers.{FilesAnswer};
+use compare_prune::prune;
+use deciding::Standing;
+use deciding::decide;
+use file_pair::Files;
+use file_pair::read_files;
+use format::Counts;
+use loading::load;
+use table::finals::final_set;
+use word_layout::FIRST_BLOCK;
+use word_layout::FIRST_SETS;
+use word_layout::SECOND_BLOCK;
 
 mod deciding;
 mod loading;
 
-// What comparing answers: the two accept the same words; or they differ, with the automaton that accepts the shown word and that
-// word's length; or the number of a refusal and the automaton at fault. The number of pairs is that of the distinct pairs of live sets.
-pub enum Comparison {
-    Same(u64),
-    Different {
-        pairs: u64,
-        taker: u8,
-        length: usize,
-    },
-    Refused {
-        number: u8,
-        automaton: u8,
-    },
+// Two valid files with the same letters: of each, the automaton is loaded, its final configurations are taken, and the plain arcs that
+// add nothing to a step are dropped; then both are decided. The final configurations of the first are taken before the second is
+// loaded, whose configurations take the place of the first one's.
+// Cost: what loading, pruning and deciding take.
+fn compare_files(
+    first: &[u8],
+    a: Counts,
+    second: &[u8],
+    b: Counts,
+    w: &mut [u64],
+    word: &mut [u8],
+) -> Comparison
+    requires { ⌜ Joinable a b (now first) (now second) × ((8192 ≤ length (now w)) × (512 ≤ length (now word))) ⌝ }
+    ensures same { λ _. ⌜ length (now (w .exit)) ≡ length (now (w .entry)) ⌝ }
+    ensures answers { λ r. ⌜ FilesAnswer (tableRefusals 256 2048 512) (now (first .entry)) (now (second .entry)) (now (word .entry)) (now (word .exit)) r ⌝ }
+{
+    let one = load(first, a, w, FIRST_BLOCK);
+    if one.refusal != 0 {
+        return Comparison::Refused {
+            number: one.refusal,
+            automaton: 1,
+        };
+    }
+    let first_finals = final_set(first, a, w, one.count);
+    let first_plain = prune(w, FIRST_BLOCK, FIRST_SETS, one.count, one.plain);
+    let two = load(second, b, w, SECOND_BLOCK);
+    if two.refusal != 0 {
+        return Comparison::Refused {
+            number: two.refusal,
+            automaton: 2,
+        };
+    }
+    let second_finals = final_set(second, b, w, two.count);
+    let second_plain = prune(w, SECOND_BLOCK, FIRST_SETS, two.count, two.plain);
+    let end = 12 + a.letters;
+    let x = Standing {
+        count: one.count,
+        plain: first_plain,
+        finals: first_finals,
+    };
+    let y = Standing {
+        count: two.count,
+        plain: second_plain,
+        finals: second_finals,
+    };
+    decide(w, x, y, &first[12..end], word)
 }
 
 // Do the automata of two files accept the same words? Where they do not, a shortest word that exactly one accepts stands at the front
 // of the word buffer, and what was lent behind it is as it was; else all of the buffer is. Refuses, in this order: fewer than 8,192
 // working words or a buffer of fewer than 512 bytes, 24; a fault of the first file, 1 to 9; of the second; other letters, 10; more than
-// 256 configurations of the first, 21, or more than 2,048 plain arcs, 22; the same of the second; more than 512 pairs, 23. The working
-// words are free again afterwards, whatever they held before.
+// 256 configurations of the first, 21, or more than 2,048 plain arcs, 22; the same of the second; more than 512 pairs, 23. Two things
+// are free: which of several shortest words is shown, and what the working words hold afterwards.
 // Cost: b + k * o + k * k + n * (p + a) steps, where b is the number of bytes of the files, o that of their arcs and operations, k that of
 // their configurations, p that of their plain arcs, a that of the letters and n that of the pairs; and as many more as pairs, or
 // configurations, have the key of one that is looked up. Nothing is allocated.

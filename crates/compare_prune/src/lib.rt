@@ -3,7 +3,7 @@
 // inside what another configuration leads to by that letter, one that is live whenever this one is.
 ghost use mathlib.Core.Path.{_≡_};
 ghost use mathlib.Core.Logic.{_⊎_};
-ghost use Prim.Native.Nat.{ℕ, _+_, _/_, _%_, _≤_, _<_};
+ghost use Prim.Native.Nat.{ℕ, _+_, _≤_, _<_};
 ghost use lib.Dec.{T};
 ghost use lib.ListN.{length};
 ghost use Rattle.word_layout.specs.Layout.{arcsAt, blockEnd, startsAt};
@@ -14,23 +14,26 @@ ghost use Rattle.word_rows.specs.Rows.{related};
 ghost use Rattle.table_sets.specs.Stepping.{setOf, Among, Room, Starts};
 ghost use Rattle.compare_prune.specs.Pruning.{Covered, ToldStill};
 use compare_step::visit;
+use table_sets::Listed;
 use table_sets::end_of;
+use table_sets::first_arc;
 use table_sets::into;
+use table_sets::list_arc;
+use table_sets::listed_arc;
 use table_sets::set_of;
-use word_layout::BLOCK_ARCS;
-use word_layout::BLOCK_STARTS;
+use table_sets::start_arcs;
 
 // Does the arc add anything: has it a letter, and is its target's row not inside that letter's set so far? Empty moves are in the rows,
 // and their letter, 255, is no letter's number.
 // Cost: constant.
-fn adds(w: &[u64], base: usize, acc: usize, met: u64, arc: usize) -> bool
-    requires { ⌜ Room (now w) base acc ⌝ }
-    ensures yes { λ r. ⌜ (T r → arc / 256 < 64) ⌝ }
-    ensures no { λ r. ⌜ (¬ (T r) → arc / 256 < 64 → (j : ℕ) → T (related (now (w .entry)) base (arc % 256) j) → T (inSet (setOf (now (w .entry)) acc met (arc / 256)) j)) ⌝ }
+fn adds(w: &[u64], base: usize, acc: usize, met: u64, arc: Listed) -> bool
+    requires { ⌜ Room (now w) base acc × (arc .target < 256) ⌝ }
+    ensures yes { λ r. ⌜ (T r → arc .letter < 64) ⌝ }
+    ensures no { λ r. ⌜ (¬ (T r) → arc .letter < 64 → (j : ℕ) → T (related (now (w .entry)) base (arc .target) j) → T (inSet (setOf (now (w .entry)) acc met (arc .letter)) j)) ⌝ }
 {
-    if arc / 256 < 64 {
-        let new = word_rows::load(w, base, arc % 256);
-        let old = set_of(w, acc, met, arc / 256);
+    if arc.letter < 64 {
+        let new = word_rows::load(w, base, arc.target);
+        let old = set_of(w, acc, met, arc.letter);
         !word_sets::inside(new, old)
     } else {
         false
@@ -47,7 +50,7 @@ fn ahead(w: &mut [u64], base: usize, acc: usize, c: usize, kept: usize) -> u64
 {
     let d = word_sets::next_live(word_rows::load(w, base, c), 0);
     if d < c {
-        let from = word_fields::get16(w, base + BLOCK_STARTS, d);
+        let from = first_arc(w, base, d);
         let to = end_of(w, base, c, kept, d);
         return visit(w, base, acc, from, to, 0);
     }
@@ -77,10 +80,10 @@ fn prune_one(
     let mut end = kept;
     let mut k = from;
     while k < to {
-        let arc = word_fields::get16(w, base + BLOCK_ARCS, k);
+        let arc = listed_arc(w, base, k);
         if adds(w, base, acc, told, arc) {
-            told = into(w, base, acc, arc / 256, arc % 256, told);
-            word_fields::put16(w, base + BLOCK_ARCS, end, arc);
+            told = into(w, base, acc, arc.letter, arc.target, told);
+            list_arc(w, base, end, arc);
             end += 1;
         }
         k += 1;
@@ -105,10 +108,10 @@ pub fn prune(w: &mut [u64], base: usize, acc: usize, count: usize, plain: usize)
     let mut c: usize = 0;
     while c < count {
         let met = ahead(w, base, acc, c, kept);
-        let from = word_fields::get16(w, base + BLOCK_STARTS, c);
+        let from = first_arc(w, base, c);
         let to = end_of(w, base, count, plain, c);
         let end = prune_one(w, base, acc, from, to, kept, met);
-        word_fields::put16(w, base + BLOCK_STARTS, c, kept);
+        start_arcs(w, base, c, kept);
         kept = end;
         c += 1;
     }

@@ -1,5 +1,5 @@
-pub mod Frames
-pub mod Meeting
-pub mod Letters
-pub mod Expanding
-pub mod Walking
+pub mod TableFrames
+pub mod MeetPair
+pub mod MeetLetters
+pub mod ExpandPair
+pub mod ExploreFrom

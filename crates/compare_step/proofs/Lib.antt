@@ -1,2 +1,2 @@
-pub mod Visiting
+pub mod VisitArcs
 pub mod Laws

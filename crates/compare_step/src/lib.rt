@@ -9,9 +9,9 @@ ghost use Rattle.word_fields.specs.Frame.{Kept};
 ghost use Rattle.word_sets.specs.Sets.{inSet, view, εClosedSet};
 ghost use Rattle.table_sets.specs.Stepping.{setOf, Among, FromList, Held, Room, Starts};
 use table_sets::end_of;
+use table_sets::first_arc;
 use table_sets::into;
-use word_layout::BLOCK_ARCS;
-use word_layout::BLOCK_STARTS;
+use table_sets::listed_arc;
 
 // The listed arcs from `from` to before `to`: the row of each one's target joins the set of its letter. Empty moves are in the
 // rows, and their letter, 255, is no letter's number.
@@ -24,9 +24,9 @@ pub fn visit(w: &mut [u64], base: usize, acc: usize, from: usize, to: usize, met
     let mut out = met;
     let mut k = from;
     while k < to {
-        let arc = word_fields::get16(w, base + BLOCK_ARCS, k);
-        if arc / 256 < 64 {
-            out = into(w, base, acc, arc / 256, arc % 256, out);
+        let arc = listed_arc(w, base, k);
+        if arc.letter < 64 {
+            out = into(w, base, acc, arc.letter, arc.target, out);
         }
         k += 1;
     }
@@ -52,7 +52,7 @@ pub fn step(
     let mut met: u64 = 0;
     let mut c = word_sets::next_live(set, 0);
     while c < count {
-        let from = word_fields::get16(w, base + BLOCK_STARTS, c);
+        let from = first_arc(w, base, c);
         let to = end_of(w, base, count, plain, c);
         met = visit(w, base, acc, from, to, met);
         c = word_sets::next_live(set, c + 1);

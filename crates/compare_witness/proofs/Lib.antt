@@ -1,4 +1,4 @@
-pub mod Differences
-pub mod Climbing
-pub mod Putting
+pub mod FirstDifference
+pub mod WordOfPair
+pub mod PutWord
 pub mod Laws

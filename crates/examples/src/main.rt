@@ -55,6 +55,7 @@ fn line_end(text: &[u8], from: usize) -> usize
     i
 }
 
+// Judges every line of the text.
 fn judge_lines(argument: usize, file: &[u8], text: &[u8], work: &mut [u64]) {
     let mut at: usize = 0;
     while at < text.len() {

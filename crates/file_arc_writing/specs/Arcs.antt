@@ -6,6 +6,7 @@ use Rattle.automata.specs.Joins.{arcFrom}
 use Rattle.format.specs.Decoding.{letterOf}
 use Rattle.file_arc_writing.specs.declared.Fields.{Fields}
 
+-- the arc with these fields and operations
 abbrev pub arcWith : Fields → List Op → Arc
 arcWith f ops = arcFrom (f .source) (letterOf (f .letter)) (f .target) ops
 

@@ -1,2 +1,2 @@
-pub mod ArcSeen
+pub mod ValidArc
 pub mod Laws

@@ -1,9 +1,10 @@
 // file_arcs: reading the arcs of a file, each four bytes and its operations (document 01, 'The book file'). Tests are joined by `&`,
 // which costs no branch: what they look at is there.
 ghost use mathlib.Core.Path.{_≡_};
+ghost use mathlib.Core.Bool.{true};
 ghost use Prim.Native.Nat.{_+_, _*_, _<_, _≤_};
 ghost use lib.ListN.{length, getD, drop};
-ghost use Rattle.file_fields.specs.Parts.{wellFields, wellOp, wellOps, arcTests, arcsTests, firstFault};
+ghost use Rattle.file_fields.specs.Parts.{fieldTests, wellOp, wellOps, opsFront, arcTests, arcsTests, allHold, firstFault};
 use file_fields::Counts;
 use file_fields::Reading;
 use file_fields::fields::arc_size;
@@ -45,48 +46,123 @@ fn are_operations(c: Counts, s: &[u8], p: usize) -> bool
     true
 }
 
+// How many of the p pairs of bytes at the front are operations, up to the first that is none.
+fn operations_front(c: Counts, s: &[u8], p: usize) -> usize
+    requires { ⌜ 2 * p ≤ length (now s) ⌝ }
+    ensures { λ r. ⌜ r ≡ opsFront c p (now (s .entry)) ⌝ }
+{
+    let mut i: usize = 0;
+    while i < p {
+        if !is_operation(c, s, 2 * i) {
+            return i;
+        }
+        i += 1;
+    }
+    i
+}
+
 // Whether the four bytes at the front begin an arc: from, letter, to, number of operations.
 fn are_fields(c: Counts, s: &[u8]) -> bool
     requires { ⌜ 4 ≤ length (now s) ⌝ }
-    ensures { λ r. ⌜ r ≡ wellFields c (now (s .entry)) ⌝ }
+    ensures { λ r. ⌜ r ≡ allHold true (fieldTests c 0 (now (s .entry))) ⌝ }
 {
     let letter = byte(s, 1);
     let operations = byte(s, 3);
     (byte(s, 0) < c.states)
         & ((letter == 255) | (letter < c.letters))
         & (byte(s, 2) < c.states)
-        & (1 <= operations)
-        & (operations <= 8)
+        & ((1 <= operations) & (operations <= 8))
 }
 
-// The counts where the arc at the front has no fault, else the number of its first one.
-fn read_arc(c: Counts, s: &[u8]) -> Reading
-    ensures { λ r. ⌜ r ≡ firstFault (arcTests c (now (s .entry))) c ⌝ }
+// The fault of the first of the four bytes at the front that is out of its range, else the counts. Called only where one is. The
+// arc stands at the place `at` of the file.
+fn field_fault(c: Counts, s: &[u8], at: usize) -> Reading
+    requires { ⌜ (4 ≤ length (now s)) × (at + length (now s) < 18446744073709551616) ⌝ }
+    ensures { λ r. ⌜ r ≡ firstFault (fieldTests c at (now (s .entry))) c ⌝ }
 {
-    if s.len() < 4 {
-        return Reading::Refused(1);
+    let letter = byte(s, 1);
+    let operations = byte(s, 3);
+    if c.states <= byte(s, 0) {
+        return Reading::Refused(7, at);
     }
-    if !are_fields(c, s) {
-        return Reading::Refused(7);
+    if !((letter == 255) | (letter < c.letters)) {
+        return Reading::Refused(7, at + 1);
     }
-    if s.len() < arc_size(s, 0) {
-        return Reading::Refused(1);
+    if c.states <= byte(s, 2) {
+        return Reading::Refused(7, at + 2);
     }
-    if !are_operations(c, &s[4..], byte(s, 3)) {
-        return Reading::Refused(8);
+    if !((1 <= operations) & (operations <= 8)) {
+        return Reading::Refused(7, at + 3);
     }
     Reading::Valid(c)
 }
 
-// The counts, or the number of the first fault of the arcs from a place on and of what is after them.
-pub fn read_arcs(c: Counts, file: &[u8], from: usize) -> Reading
+// Whether the arc at the front has no fault.
+fn is_arc(c: Counts, s: &[u8]) -> bool
+    ensures { λ r. ⌜ r ≡ allHold true (arcTests c 0 (now (s .entry))) ⌝ }
+{
+    if s.len() < 4 {
+        return false;
+    }
+    if !are_fields(c, s) {
+        return false;
+    }
+    if s.len() < arc_size(s, 0) {
+        return false;
+    }
+    are_operations(c, &s[4..], byte(s, 3))
+}
+
+// The first fault of the arc at the front, else the counts. The arc stands at the place `at` of the file.
+fn arc_fault(c: Counts, s: &[u8], at: usize) -> Reading
+    requires { ⌜ at + length (now s) < 18446744073709551616 ⌝ }
+    ensures { λ r. ⌜ r ≡ firstFault (arcTests c at (now (s .entry))) c ⌝ }
+{
+    let size = s.len();
+    if size < 4 {
+        return Reading::Refused(1, at);
+    }
+    if !are_fields(c, s) {
+        return field_fault(c, s, at);
+    }
+    if size < arc_size(s, 0) {
+        return Reading::Refused(1, at + 4);
+    }
+    let p = byte(s, 3);
+    let front = operations_front(c, &s[4..], p);
+    if front < p {
+        return Reading::Refused(8, at + 4 + 2 * front);
+    }
+    Reading::Valid(c)
+}
+
+// Whether the arcs from a place on have no fault, and nothing is after them.
+fn are_arcs(c: Counts, file: &[u8], from: usize) -> bool
     requires { ⌜ from ≤ length (now file) ⌝ }
-    ensures { λ r. ⌜ r ≡ firstFault (arcsTests (c .arcs) c (drop from (now (file .entry)))) c ⌝ }
+    ensures { λ r. ⌜ r ≡ allHold true (arcsTests (c .arcs) c from (drop from (now (file .entry)))) ⌝ }
 {
     let mut at = from;
     let mut i: usize = 0;
     while i < c.arcs {
-        let arc = read_arc(c, &file[at..]);
+        if !is_arc(c, &file[at..]) {
+            return false;
+        }
+        at += arc_size(file, at);
+        i += 1;
+    }
+    file.len() <= at
+}
+
+// The first fault of the arcs from a place on and of what is after them, else the counts. Called only where there is one: looking for
+// its place in a pass of its own costs a file without a fault nothing.
+fn arcs_fault(c: Counts, file: &[u8], from: usize) -> Reading
+    requires { ⌜ from ≤ length (now file) ⌝ }
+    ensures { λ r. ⌜ r ≡ firstFault (arcsTests (c .arcs) c from (drop from (now (file .entry)))) c ⌝ }
+{
+    let mut at = from;
+    let mut i: usize = 0;
+    while i < c.arcs {
+        let arc = arc_fault(c, &file[at..], at);
         let Reading::Valid(_) = arc else {
             return arc;
         };
@@ -94,7 +170,18 @@ pub fn read_arcs(c: Counts, file: &[u8], from: usize) -> Reading
         i += 1;
     }
     if at < file.len() {
-        return Reading::Refused(9);
+        return Reading::Refused(9, at);
+    }
+    Reading::Valid(c)
+}
+
+// The counts, or the first fault of the arcs from a place on and of what is after them.
+pub fn read_arcs(c: Counts, file: &[u8], from: usize) -> Reading
+    requires { ⌜ from ≤ length (now file) ⌝ }
+    ensures { λ r. ⌜ r ≡ firstFault (arcsTests (c .arcs) c from (drop from (now (file .entry)))) c ⌝ }
+{
+    if !are_arcs(c, file, from) {
+        return arcs_fault(c, file, from);
     }
     Reading::Valid(c)
 }

@@ -1,7 +1,7 @@
 -- Laws: the laws of this crate that crates above cite. A law that is not named here may change.
 -- what tests that hold say, joined by &&, or one after the other with their numbers
-pub use Rattle.file_fields.proofs.Tests.{Hold, Holds, all-hold, and-both, andThen, failed, fault-append, hold-valid, passed, valid-hold}
+pub use Rattle.file_fields.proofs.TestLaws.{Hold, Holds, all-false, all-hold, and-both, andThen, each-holds, failed, fault-append, hold-valid, one-fails, passed, valid-hold}
 -- the definitions of reading at a place of the whole list, one step and the end: what the loops go by
-pub use Rattle.file_fields.proofs.Steps.{arcs-at, arcs-end, ascending-at, ascending-end, down, flags-at, flags-end, letters-length, none-left, ops-at, ops-end, tail}
+pub use Rattle.file_fields.proofs.ReadingTurns.{arcs-all, arcs-at, arcs-end, ascending-all, ascending-at, ascending-end, down, flags-all, flags-at, flags-end, flags-length, letters-length, none-left, ops-all, ops-at, ops-end, tail}
 -- letters that ascend stand in one place only
 pub use Rattle.file_fields.proofs.LetterLaws.{ascending-apart}

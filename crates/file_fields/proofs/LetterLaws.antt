@@ -11,7 +11,7 @@ use lib.ListN.{getElem?}
 use Rattle.automata.specs.Counting.{Apart}
 use Rattle.automata.proofs.Laws.{mem-at}
 use Rattle.file_fields.specs.Parts.{ascending}
-use Rattle.file_fields.proofs.Tests.{and-both}
+use Rattle.file_fields.proofs.TestLaws.{and-both}
 
 above : (x : ℕ) (l : List ℕ) (k b : ℕ) → ascending (x ∷ l) ≡ true → getElem? l k ≡ some b → x < b
 unfolding ascending

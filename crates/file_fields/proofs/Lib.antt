@@ -1,5 +1,5 @@
 -- what the functions' proofs go by
-pub mod Tests
-pub mod Steps
+pub mod TestLaws
+pub mod ReadingTurns
 pub mod LetterLaws
 pub mod Laws

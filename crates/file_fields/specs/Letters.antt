@@ -11,5 +11,6 @@ unfoldable pub letterFrom : ℕ → ℕ → List ℕ → Letter
 letterFrom i b [] = None
 letterFrom i b (x ∷ l) = cond (eqb x b) (At i) (letterFrom (suc i) b l)
 
+-- the number of the letter with the byte b
 abbrev pub letterNumber : ℕ → List ℕ → Letter
 letterNumber b l = letterFrom 0 b l

@@ -1,4 +1,5 @@
--- Parts: the tests of the parts of a file, each with the number of the fault where it fails, and what the first that fails answers.
+-- Parts: the tests of the parts of a file, each with the number of the fault where it fails and its place, in bytes from the file's
+-- start; and what the first that fails answers. Where the file ends inside a part, the place is where that part begins.
 -- Renders document 01, 'The book file' and 'Refused because of what was handed in', 1 to 9; format's specs/Reading.antt puts the parts together.
 use mathlib.Core.Bool.{Bool, true, not, cond, _||_, _&&_}
 use mathlib.Core.List.{List, [], _∷_, _++_}
@@ -22,28 +23,30 @@ marked s = eqb (getD s 0 0) 0x4D && eqb (getD s 1 0) 0x4C && eqb (getD s 2 0) 0x
 abbrev pub countsOf : List ℕ → Counts
 countsOf s = record { letters = getD s 5 0; states = two s 6; registers = getD s 8 0; symbols = getD s 9 0; arcs = two s 10 }
 
-abbrev pub inRange : Counts → Bool
-inRange c =
-    leb (c .letters) 64
-    && leb 1 (c .states) && leb (c .states) 256
-    && leb 1 (c .registers) && leb (c .registers) 8
-    && leb 1 (c .symbols) && leb (c .symbols) 16
-    && leb (c .arcs) 2048
-
--- 1 the header wants 12 bytes; 2 mark; 3 version; 4 a header count outside its range
-abbrev pub headerTests : List ℕ → List (Bool × ℕ)
-headerTests s =
-    (leb 12 (length s), 1)
-    ∷ (marked s, 2)
-    ∷ (eqb (two s 3) 1, 3)
-    ∷ (inRange (countsOf s), 4)
+-- 4 a header count outside its range
+abbrev pub countTests : Counts → List (Bool × ℕ × ℕ)
+countTests c =
+    (leb (c .letters) 64, 4, 5)
+    ∷ (leb 1 (c .states) && leb (c .states) 256, 4, 6)
+    ∷ (leb 1 (c .registers) && leb (c .registers) 8, 4, 8)
+    ∷ (leb 1 (c .symbols) && leb (c .symbols) 16, 4, 9)
+    ∷ (leb (c .arcs) 2048, 4, 10)
     ∷ []
+
+-- 1 the header wants 12 bytes; 2 mark; 3 version; 4 its counts
+abbrev pub headerTests : List ℕ → List (Bool × ℕ × ℕ)
+headerTests s =
+    (leb 12 (length s), 1, 0)
+    ∷ (marked s, 2, 0)
+    ∷ (eqb (two s 3) 1, 3, 3)
+    ∷ countTests (countsOf s)
 
 -- ---- the letters
 -- `size` bytes from a place on
 abbrev pub part : ℕ → ℕ → List ℕ → List ℕ
 part at size s = take size (drop at s)
 
+-- the a letters, behind the header
 abbrev pub letterBytes : Counts → List ℕ → List ℕ
 letterBytes c s = part 12 (c .letters) s
 
@@ -53,16 +56,27 @@ ascending [] = true
 ascending (x ∷ []) = true
 ascending (x ∷ y ∷ l) = ltb x y && ascending (y ∷ l)
 
--- 1 the letters want a bytes; 5 letters not strictly ascending
-abbrev pub letterTests : Counts → List ℕ → List (Bool × ℕ)
+-- how many at the front ascend strictly
+unfoldable pub ascendingFront : List ℕ → ℕ
+ascendingFront [] = 0
+ascendingFront (x ∷ []) = 1
+ascendingFront (x ∷ y ∷ l) = suc (cond (ltb x y) (ascendingFront (y ∷ l)) 0)
+
+-- 1 the letters want a bytes; 5 letters not strictly ascending, at the first that is not above the one before it
+abbrev pub letterTests : Counts → List ℕ → List (Bool × ℕ × ℕ)
 letterTests c s =
-    (leb (12 + c .letters) (length s), 1)
-    ∷ (ascending (letterBytes c s), 5)
+    (leb (12 + c .letters) (length s), 1, 12)
+    ∷ (ascending (letterBytes c s), 5, 12 + ascendingFront (letterBytes c s))
     ∷ []
 
 -- ---- the final flags
+-- where they begin, behind the letters
+abbrev pub flagsAt : Counts → ℕ
+flagsAt c = 12 + c .letters
+
+-- the s flags
 abbrev pub flagBytes : Counts → List ℕ → List ℕ
-flagBytes c s = part (12 + c .letters) (c .states) s
+flagBytes c s = part (flagsAt c) (c .states) s
 
 -- where they end and the arcs begin
 abbrev pub firstArc : Counts → ℕ
@@ -73,21 +87,27 @@ unfoldable pub flags : List ℕ → Bool
 flags [] = true
 flags (x ∷ l) = leb x 1 && flags l
 
--- 1 the flags want s bytes; 6 a final flag above 01
-abbrev pub flagTests : Counts → List ℕ → List (Bool × ℕ)
+-- how many at the front are 00 or 01
+unfoldable pub flagsFront : List ℕ → ℕ
+flagsFront [] = 0
+flagsFront (x ∷ l) = cond (leb x 1) (suc (flagsFront l)) 0
+
+-- 1 the flags want s bytes; 6 a final flag above 01, at the first such one
+abbrev pub flagTests : Counts → List ℕ → List (Bool × ℕ × ℕ)
 flagTests c s =
-    (leb (firstArc c) (length s), 1)
-    ∷ (flags (flagBytes c s), 6)
+    (leb (firstArc c) (length s), 1, flagsAt c)
+    ∷ (flags (flagBytes c s), 6, flagsAt c + flagsFront (flagBytes c s))
     ∷ []
 
--- ---- an arc, at the front of l
--- from-state, letter (FF is the empty move), to-state, number p of operations (1 to 8)
-abbrev pub wellFields : Counts → List ℕ → Bool
-wellFields c l =
-    ltb (getD l 0 0) (c .states)
-    && (eqb (getD l 1 0) 255 || ltb (getD l 1 0) (c .letters))
-    && ltb (getD l 2 0) (c .states)
-    && leb 1 (getD l 3 0) && leb (getD l 3 0) 8
+-- ---- an arc, at the front of l, which stands at the place `at` of the file
+-- 7 its from-state, letter (FF is the empty move), to-state, number p of operations (1 to 8)
+abbrev pub fieldTests : Counts → ℕ → List ℕ → List (Bool × ℕ × ℕ)
+fieldTests c at l =
+    (ltb (getD l 0 0) (c .states), 7, at)
+    ∷ (eqb (getD l 1 0) 255 || ltb (getD l 1 0) (c .letters), 7, at + 1)
+    ∷ (ltb (getD l 2 0) (c .states), 7, at + 2)
+    ∷ (leb 1 (getD l 3 0) && leb (getD l 3 0) 8, 7, at + 3)
+    ∷ []
 
 -- an operation: its first byte x is kind times 16 plus register, its second byte y a symbol;
 -- register 0 admits only a read of 0
@@ -103,32 +123,44 @@ unfoldable pub wellOps : Counts → ℕ → List ℕ → Bool
 wellOps c zero l = true
 wellOps c (suc p) l = wellOp c (getD l 0 0) (getD l 1 0) && wellOps c p (drop 2 l)
 
+-- how many of them at the front are operations
+unfoldable pub opsFront : Counts → ℕ → List ℕ → ℕ
+opsFront c zero l = 0
+opsFront c (suc p) l = cond (wellOp c (getD l 0 0) (getD l 1 0)) (suc (opsFront c p (drop 2 l))) 0
+
 -- how many bytes an arc takes: four, and two for each operation
 abbrev pub arcSize : List ℕ → ℕ
 arcSize l = 4 + 2 * getD l 3 0
 
--- 1 an arc wants 4 bytes; 7 its from, letter, to or p; 1 its operations want 2p bytes; 8 an operation
-abbrev pub arcTests : Counts → List ℕ → List (Bool × ℕ)
-arcTests c l =
-    (leb 4 (length l), 1)
-    ∷ (wellFields c l, 7)
-    ∷ (leb (arcSize l) (length l), 1)
-    ∷ (wellOps c (getD l 3 0) (drop 4 l), 8)
+-- 1 its operations want 2p bytes; 8 an operation, at the first that is none
+abbrev pub operationTests : Counts → ℕ → List ℕ → List (Bool × ℕ × ℕ)
+operationTests c at l =
+    (leb (arcSize l) (length l), 1, at + 4)
+    ∷ (wellOps c (getD l 3 0) (drop 4 l), 8, at + 4 + 2 * opsFront c (getD l 3 0) (drop 4 l))
     ∷ []
 
--- ---- m arcs; 9 bytes after the last arc
-unfoldable pub arcsTests : ℕ → Counts → List ℕ → List (Bool × ℕ)
-unfolding wellOps
-arcsTests zero c l = (leb (length l) 0, 9) ∷ []
-arcsTests (suc m) c l = arcTests c l ++ arcsTests m c (drop (arcSize l) l)
+-- 1 an arc wants 4 bytes; its fields; its operations
+abbrev pub arcTests : Counts → ℕ → List ℕ → List (Bool × ℕ × ℕ)
+arcTests c at l = (leb 4 (length l), 1, at) ∷ (fieldTests c at l ++ operationTests c at l)
+
+-- ---- m arcs; 9 bytes after the last arc, where they begin
+unfoldable pub arcsTests : ℕ → Counts → ℕ → List ℕ → List (Bool × ℕ × ℕ)
+unfolding wellOps opsFront
+arcsTests zero c at l = (leb (length l) 0, 9, at) ∷ []
+arcsTests (suc m) c at l = arcTests c at l ++ arcsTests m c (at + arcSize l) (drop (arcSize l) l)
 
 -- ---- the answer
--- the number of the first test that fails, else the counts
-unfoldable pub firstFault : List (Bool × ℕ) → Counts → Reading
+-- the number and the place of the first test that fails, else the counts
+unfoldable pub firstFault : List (Bool × ℕ × ℕ) → Counts → Reading
 firstFault [] c = Valid c
-firstFault (t ∷ l) c = cond (t .0) (firstFault l c) (Refused (t .1))
+firstFault (t ∷ l) c = cond (t .0) (firstFault l c) (Refused (t .1) (t .2))
+
+-- whether all tests hold: `t && u && v`
+abbrev pub allHold : Bool → List (Bool × ℕ × ℕ) → Bool
+allHold b [] = b
+allHold b (t ∷ l) = allHold (b && t .0) l
 
 -- document 01's number of an answer; 0 of a valid file
 abbrev pub numberOf : Reading → ℕ
 numberOf (Valid c) = 0
-numberOf (Refused n) = n
+numberOf (Refused n place) = n

@@ -1,8 +1,25 @@
-// Numbers that stand at a place of a file, and the two halves of an operation's first byte.
+// The places of a file's parts, the numbers that stand at a place, and the two halves of an operation's first byte.
 ghost use mathlib.Core.Path.{_≡_};
-ghost use Prim.Native.Nat.{_+_, _<_, _/_, _%_};
+ghost use Prim.Native.Nat.{_+_, _<_, _≤_, _/_, _%_};
 ghost use lib.ListN.{length, getD, drop};
-ghost use Rattle.file_fields.specs.Parts.{two, arcSize};
+ghost use Rattle.file_fields.specs.Parts.{two, arcSize, flagsAt, firstArc};
+use super::Counts;
+
+// Where the final flags of a file with the counts c begin: behind the header and the letters. Refuses nothing. Cost: constant.
+pub fn flags_at(c: Counts) -> usize
+    requires { ⌜ c .letters ≤ 64 ⌝ }
+    ensures { λ r. ⌜ r ≡ flagsAt c ⌝ }
+{
+    12 + c.letters
+}
+
+// Where its arcs begin: behind the flags. Refuses nothing. Cost: constant.
+pub fn first_arc(c: Counts) -> usize
+    requires { ⌜ (c .letters ≤ 64) × (c .states ≤ 256) ⌝ }
+    ensures { λ r. ⌜ r ≡ firstArc c ⌝ }
+{
+    flags_at(c) + c.states
+}
 
 // The byte at a place. Refuses nothing. Cost: constant.
 pub fn byte(s: &[u8], at: usize) -> usize

@@ -16,10 +16,10 @@ pub struct Counts {
     pub arcs: usize,
 }
 
-// What reading a file answers: its counts, or the number of its first fault (1 to 9).
+// What reading a file answers: its counts, or the number of its first fault (1 to 9) and its place, in bytes from the file's start.
 pub enum Reading {
     Valid(Counts),
-    Refused(u8),
+    Refused(u8, usize),
 }
 
 impl Reading {
@@ -29,7 +29,7 @@ impl Reading {
     {
         match self {
             Reading::Valid(_) => 0,
-            Reading::Refused(n) => n,
+            Reading::Refused(n, _) => n,
         }
     }
 }

@@ -4,7 +4,7 @@ use mathlib.Core.Logic.{_≢_}
 use mathlib.Core.Bool.{Bool, true, false, not, _&&_, _||_}
 use mathlib.Core.List.{List, [], _∷_}
 use mathlib.Core.Option.{some}
-use Prim.Native.Nat.{ℕ, zero, suc, _/_, _%_, _≤_, _<_}
+use Prim.Native.Nat.{ℕ, zero, suc, _+_, _/_, _%_, _≤_, _<_}
 use native.Mathlib.Omega.{arith}
 use borrow.Author.Tests.{leb-true, ltb-true, eqb-true, eqb-false, eq-eqb}
 use lib.Dec.{leb, ltb, eqb}
@@ -86,14 +86,15 @@ pub arc-fits : (c : Counts) (l : List ℕ) → c .symbols ≤ 16 → ArcSeen c l
 unfolding arcOf
 arc-fits c l g a =
     let p = getD l 3 0 in
-    let h = all-hold (ltb (getD l 0 0) (c .states)) ((eqb (getD l 1 0) 255 || ltb (getD l 1 0) (c .letters)) ∷ ltb (getD l 2 0) (c .states) ∷ leb 1 p ∷ leb p 8 ∷ []) (a .fields) in
+    let h = a .fields in
+    let few = and-both (leb 1 p) (leb p 8) (h .1 .1 .1 .0) in
     let count = ops-count p (drop 4 l) in
     record {
       source = ltb-true _ _ (h .0);
       lettered = letter-fits c (getD l 1 0) (h .1 .0);
       target = ltb-true _ _ (h .1 .1 .0);
-      some-op = rw count (leb-true _ _ (h .1 .1 .1 .0));
-      few-ops = rw count (leb-true _ _ (h .1 .1 .1 .1 .0));
+      some-op = rw count (leb-true _ _ (few .0));
+      few-ops = rw count (leb-true _ _ (few .1));
       ops = ops-fit c p (drop 4 l) g (a .ops) .0;
     }
 
@@ -103,14 +104,14 @@ pub record ArcsSeen (c : Counts) (m : ℕ) (l : List ℕ) : Type 0 where
   pub ok : OkArcs (c .registers) m l
   pub all : whole m l ≡ length l
 
-pub arcs-seen : (c : Counts) (m : ℕ) (l : List ℕ) → c .symbols ≤ 16 → Hold (arcsTests m c l) → ArcsSeen c m l
+pub arcs-seen : (c : Counts) (m at : ℕ) (l : List ℕ) → c .symbols ≤ 16 → Hold (arcsTests m c at l) → ArcsSeen c m l
 unfolding arcsTests arcsOf OkArcs whole
-arcs-seen c zero l g h = let f : length l ≤ 0 = leb-true _ _ (h .0) in record { fit = tt; ok = tt; all = omega arith }
-arcs-seen c (suc m) l g h =
+arcs-seen c zero at l g h = let f : length l ≤ 0 = leb-true _ _ (h .0) in record { fit = tt; ok = tt; all = omega arith }
+arcs-seen c (suc m) at l g h =
     let rest = drop (arcSize l) l in
-    let s = each-split Holds (arcTests c l) (arcsTests m c rest) h in
-    let a = arc-seen c l (s .0) in
-    let r = arcs-seen c m rest g (s .1) in
+    let s = each-split Holds (arcTests c at l) (arcsTests m c (at + arcSize l) rest) h in
+    let a = arc-seen c at l (s .0) in
+    let r = arcs-seen c m (at + arcSize l) rest g (s .1) in
     let f = arc-fits c l g a in
     record {
       fit = (f, r .fit);

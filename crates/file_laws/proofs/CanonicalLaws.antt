@@ -64,17 +64,17 @@ arc-same c (s ∷ k ∷ t ∷ p ∷ l) a =
     let d : drop (4 + 2 * p) (s ∷ k ∷ t ∷ p ∷ l) ≡ drop (2 * p) l = sym (drop-drop (2 * p) 4 (s ∷ k ∷ t ∷ p ∷ l)) in
     rw (letter-same k, ops-count p l, ops-same c p l (omega (arith, a .whole)) (a .ops), d, take-append-drop (2 * p) l)
 
-arcs-same : (c : Counts) (m : ℕ) (l : List ℕ) → Hold (arcsTests m c l) → arcsBytes (arcsOf m l) ≡ l
+arcs-same : (c : Counts) (m at : ℕ) (l : List ℕ) → Hold (arcsTests m c at l) → arcsBytes (arcsOf m l) ≡ l
 unfolding arcsTests arcsOf arcsBytes
-arcs-same c zero l h = nothing l (leb-true _ _ (h .0))
+arcs-same c zero at l h = nothing l (leb-true _ _ (h .0))
   where
     nothing : (l : List ℕ) → length l ≤ 0 → [] ≡ l
     nothing [] h = refl
     nothing (x ∷ l) h = absurd (omega arith)
-arcs-same c (suc m) l h =
+arcs-same c (suc m) at l h =
     let rest = drop (arcSize l) l in
-    let q = each-split Holds (arcTests c l) (arcsTests m c rest) h in
-    ap (λ t. arcBytes (arcOf l) ++ t) (arcs-same c m rest (q .1)) ∙ arc-same c l (arc-seen c l (q .0))
+    let q = each-split Holds (arcTests c at l) (arcsTests m c (at + arcSize l) rest) h in
+    ap (λ t. arcBytes (arcOf l) ++ t) (arcs-same c m (at + arcSize l) rest (q .1)) ∙ arc-same c l (arc-seen c at l (q .0))
 
 -- ---- the final flags
 pub flags-same : (l : List ℕ) → flags l ≡ true → map flagByte (map isFinal l) ≡ l
@@ -124,7 +124,7 @@ module _ (s : List ℕ) (b : Bytes s) where
       let arcs = arcsBytes (decoded c s .arcs) in
       let d : drop (firstArc c) s ≡ drop (c .states) rest = sym (drop-drop (c .states) (12 + c .letters) s) in
       let tail : map flagByte (decoded c s .finals) ++ arcs ≡ rest
-      = ap (λ t. t ++ arcs) (flags-same (flagBytes c s) (h .flags)) ∙ ap (λ t. flagBytes c s ++ t) (arcs-same c (c .arcs) (drop (firstArc c) s) (h .arcs) ∙ d) ∙ take-append-drop (c .states) rest in
+      = ap (λ t. t ++ arcs) (flags-same (flagBytes c s) (h .flags)) ∙ ap (λ t. flagBytes c s ++ t) (arcs-same c (c .arcs) (firstArc c) (drop (firstArc c) s) (h .arcs) ∙ d) ∙ take-append-drop (c .states) rest in
       let all : letterBytes c s ++ (map flagByte (decoded c s .finals) ++ arcs) ≡ drop 12 s
       = ap (λ t. letterBytes c s ++ t) (tail ∙ sym (drop-drop (c .letters) 12 s)) ∙ take-append-drop (c .letters) (drop 12 s) in
       ap (λ (d : Counts). headerBytes d ++ (letterBytes c s ++ (map flagByte (decoded c s .finals) ++ arcs))) (decoded-sizes s c (h .there))

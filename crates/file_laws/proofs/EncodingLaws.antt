@@ -6,13 +6,13 @@ use mathlib.Core.Option.{Option, none, some}
 use Prim.Native.Nat.{ℕ, zero, suc, _+_, _*_, _/_, _%_, _≤_, _<_}
 use native.Mathlib.Omega.{arith}
 use borrow.Author.Tests.{le-leb, lt-ltb, eq-eqb, ne-eqb}
-use lib.Dec.{eqb, ltb}
+use lib.Dec.{eqb, leb, ltb}
 use lib.ListN.{length, drop, take, length-append, length-map}
 use lib.Seq.{drop-drop, take-at, drop-at}
 use Rattle.automata.specs.Automaton.{Op, reads, writes, Arc, Automaton, register, symbol, KeepsZero}
 use Rattle.file_fields.specs.declared.Counts.{Counts}
 use Rattle.file_fields.specs.declared.Reading.the-variants.{Valid}
-use Rattle.file_fields.specs.Parts.{countsOf, letterBytes, ascending, flagBytes, firstArc, flags, wellFields, wellOp, wellOps, arcSize, arcTests, arcsTests}
+use Rattle.file_fields.specs.Parts.{countsOf, letterBytes, ascending, flagBytes, firstArc, flags, operationTests, wellOp, wellOps, arcSize, arcTests, arcsTests}
 use Rattle.format.specs.Reading.{readingOf}
 use Rattle.format.specs.Decoding.{opOf, opsOf, letterOf, arcOf, arcsOf, isFinal, decoded, automatonOf}
 use Rattle.format.specs.Encoding.{sizes, flagByte, kind, opsBytes, letterByte, arcBytes, arcsBytes, bytesOf}
@@ -86,14 +86,15 @@ unfolding arcBytes
 after-arc x rest = sym (drop-drop (2 * length (x .ops)) 4 (arcBytes x ++ rest)) ∙ drop-at (opsBytes (x .ops)) rest (2 * length (x .ops)) (ops-length (x .ops))
 
 module _ (c : Counts) (r : Ranges c) where
-  arc-well : (x : Arc) (rest : List ℕ) → ArcFits c x → Hold (arcTests c (arcBytes x ++ rest))
+  arc-well : (at : ℕ) (x : Arc) (rest : List ℕ) → ArcFits c x → Hold (arcTests c at (arcBytes x ++ rest))
   unfolding arcBytes
-  arc-well x rest h =
+  arc-well at x rest h =
       let k = length (arcBytes x ++ rest) in
       let e : length (opsBytes (x .ops) ++ rest) ≡ 2 * length (x .ops) + length rest = length-append (opsBytes (x .ops)) rest ∙ ap (λ t. t + length rest) (ops-length (x .ops)) in
-      let fields : wellFields c (arcBytes x ++ rest) ≡ true
-      = rw (lt-ltb _ _ (h .source), letter-well c (x .letter) (h .lettered), lt-ltb _ _ (h .target), le-leb _ _ (h .some-op), le-leb _ _ (h .few-ops)) in
-      (le-leb 4 k (omega arith), (fields, (le-leb (4 + 2 * length (x .ops)) k (omega (arith, e)), (ops-well c (r .registers) (x .ops) rest (h .ops), tt))))
+      let p = length (x .ops) in
+      let few : (leb 1 p && leb p 8) ≡ true = rw (le-leb _ _ (h .some-op), le-leb _ _ (h .few-ops)) in
+      let ops : Hold (operationTests c at (arcBytes x ++ rest)) = (le-leb (4 + 2 * p) k (omega (arith, e)), (ops-well c (r .registers) (x .ops) rest (h .ops), tt)) in
+      (le-leb 4 k (omega arith), (lt-ltb _ _ (h .source), (letter-well c (x .letter) (h .lettered), (lt-ltb _ _ (h .target), (few, ops)))))
 
   arc-back : (x : Arc) (rest : List ℕ) → ArcFits c x → arcOf (arcBytes x ++ rest) ≡ x
   unfolding arcOf arcBytes
@@ -102,12 +103,13 @@ module _ (c : Counts) (r : Ranges c) where
       let o = ops-back c (r .registers) (x .ops) rest (h .ops) in
       λ i. record { source = x .source; letter = l i; target = x .target; ops = o i }
 
-  arcs-well : (xs : List Arc) → Each (ArcFits c) xs → Hold (arcsTests (length xs) c (arcsBytes xs))
+  arcs-well : (at : ℕ) (xs : List Arc) → Each (ArcFits c) xs → Hold (arcsTests (length xs) c at (arcsBytes xs))
   unfolding arcsTests arcsBytes
-  arcs-well [] h = (refl, tt)
-  arcs-well (x ∷ xs) h =
-      each-join Holds (arcTests c (arcBytes x ++ arcsBytes xs)) (arcsTests (length xs) c (drop (4 + 2 * length (x .ops)) (arcBytes x ++ arcsBytes xs)))
-      (arc-well x (arcsBytes xs) (h .0)) (rw (after-arc x (arcsBytes xs)) (arcs-well xs (h .1)))
+  arcs-well at [] h = (refl, tt)
+  arcs-well at (x ∷ xs) h =
+      let next = at + (4 + 2 * length (x .ops)) in
+      each-join Holds (arcTests c at (arcBytes x ++ arcsBytes xs)) (arcsTests (length xs) c next (drop (4 + 2 * length (x .ops)) (arcBytes x ++ arcsBytes xs)))
+      (arc-well at x (arcsBytes xs) (h .0)) (rw (after-arc x (arcsBytes xs)) (arcs-well next xs (h .1)))
 
   arcs-back : (xs : List Arc) → Each (ArcFits c) xs → arcsOf (length xs) (arcsBytes xs) ≡ xs
   unfolding arcsOf arcsBytes
@@ -183,7 +185,7 @@ module _ (x : Automaton) where
     rising = ap ascending letters-part ∙ h .ascends;
     there = omega (arith, bytes-length);
     flags = ap flags flags-part ∙ flags-well (x .finals);
-    arcs = subst (λ l. Hold (arcsTests (c .arcs) c l)) (sym arcs-part) (arcs-well c (h .ranges) (x .arcs) (arcs-fit x h));
+    arcs = subst (λ l. Hold (arcsTests (c .arcs) c (firstArc c) l)) (sym arcs-part) (arcs-well c (h .ranges) (firstArc c) (x .arcs) (arcs-fit x h));
   })
 
   pub bytes-back : Fits x → automatonOf s ≡ x

@@ -4,6 +4,7 @@ use mathlib.Core.List.{List, [], _∷_, _++_, map}
 use Prim.Native.Nat.{ℕ}
 use lib.ListN.{take, set}
 use Rattle.automata.specs.Examples.{automatonT}
+use Rattle.file_fields.specs.declared.Reading.{Reading}
 use Rattle.file_fields.specs.declared.Reading.the-variants.{Valid, Refused}
 use Rattle.format.specs.Reading.{readingOf}
 use Rattle.format.specs.Decoding.{automatonOf}
@@ -36,7 +37,20 @@ spoiled =
     ∷ (fileT ++ (0 ∷ []))
     ∷ []
 
-pub refused : map readingOf spoiled
-    ≡ map Refused (1 ∷ 1 ∷ 1 ∷ 1 ∷ 1 ∷ 1 ∷ 2 ∷ 3 ∷ 4 ∷ 4 ∷ 4 ∷ 4 ∷ 4 ∷ 4 ∷ 4 ∷ 4 ∷ 5 ∷ 6 ∷ 7 ∷ 7 ∷ 7 ∷ 7 ∷ 7 ∷ 8 ∷ 8 ∷ 8 ∷ 8 ∷ 8 ∷ 9 ∷ [])
+-- their faults, each with its place
+abbrev faults : List Reading
+faults =
+    Refused 1 0 ∷ Refused 1 0 ∷ Refused 1 12 ∷ Refused 1 15 ∷ Refused 1 18 ∷ Refused 1 46
+    ∷ Refused 2 0
+    ∷ Refused 3 3
+    ∷ Refused 4 5 ∷ Refused 4 6 ∷ Refused 4 6 ∷ Refused 4 8 ∷ Refused 4 8 ∷ Refused 4 9 ∷ Refused 4 9 ∷ Refused 4 10
+    ∷ Refused 5 13
+    ∷ Refused 6 15
+    ∷ Refused 7 18 ∷ Refused 7 19 ∷ Refused 7 20 ∷ Refused 7 21 ∷ Refused 7 21
+    ∷ Refused 8 22 ∷ Refused 8 22 ∷ Refused 8 22 ∷ Refused 8 22 ∷ Refused 8 34
+    ∷ Refused 9 48
+    ∷ []
+
+pub refused : map readingOf spoiled ≡ faults
 unfolding readingOf
 refused = refl

@@ -1,5 +1,5 @@
 -- FrontLaws: a test sees no further than the part that it looks at, so a valid file that is cut short is refused with 1, and one
--- with bytes after it with 9.
+-- with bytes after it with 9, at the place where these begin.
 use mathlib.Core.Path.{_≡_, refl, sym, ap, _∙_, subst}
 use mathlib.Core.Bool.{Bool, true, false, _&&_}
 use mathlib.Core.List.{List, [], _∷_, _++_}
@@ -11,7 +11,7 @@ use lib.ListN.{length, getD, drop, length-drop, length-append, List·getD-append
 use lib.Seq.{take-append-le, drop-append-le}
 use Rattle.file_fields.specs.declared.Counts.{Counts}
 use Rattle.file_fields.specs.declared.Reading.the-variants.{Valid, Refused}
-use Rattle.file_fields.specs.Parts.{two, marked, countsOf, part, ascending, firstArc, flags, wellFields, wellOp, wellOps, arcSize, arcTests, arcsTests, headerTests, firstFault}
+use Rattle.file_fields.specs.Parts.{two, marked, countsOf, part, ascending, firstArc, flags, fieldTests, wellOp, wellOps, arcSize, arcTests, arcsTests, headerTests, firstFault}
 use Rattle.format.specs.Reading.{bodyTests, readingOf}
 use Rattle.format.specs.Limits.{Ranges}
 use Rattle.automata.proofs.Laws.{each-split}
@@ -25,10 +25,15 @@ module _ (t : List ℕ) (more : 0 < length t) where
   part-front : (at size : ℕ) (s : List ℕ) → at + size ≤ length s → part at size (s ++ t) ≡ part at size s
   part-front at size s h = rw (drop-append-le at s t (omega arith)) (take-append-le size (drop at s) t (simp length-drop (omega arith)))
 
-  fields-front : (c : Counts) (l : List ℕ) → 4 ≤ length l → wellFields c (l ++ t) ≡ wellFields c l
-  fields-front c l h =
-      let f : (i : ℕ) → i < length l → getD (l ++ t) i 0 ≡ getD l i 0 = List·getD-append l t 0 in
-      rw (f 0 (omega arith), f 1 (omega arith), f 2 (omega arith), f 3 (omega arith))
+  module _ (c : Counts) (l : List ℕ) (h : 4 ≤ length l) where
+    byte-front : (i : ℕ) → i < length l → getD (l ++ t) i 0 ≡ getD l i 0
+    byte-front = List·getD-append l t 0
+
+    fields-longer : Hold (fieldTests c 0 l) → Hold (fieldTests c 0 (l ++ t))
+    fields-longer f = rw (byte-front 0 (omega arith), byte-front 1 (omega arith), byte-front 2 (omega arith), byte-front 3 (omega arith)) f
+
+    fields-shorter : Hold (fieldTests c 0 (l ++ t)) → Hold (fieldTests c 0 l)
+    fields-shorter f = rw (byte-front 0 (omega arith), byte-front 1 (omega arith), byte-front 2 (omega arith), byte-front 3 (omega arith)) at f
 
   size-front : (l : List ℕ) → 4 ≤ length l → arcSize (l ++ t) ≡ arcSize l
   size-front l h = ap (λ p. 4 + 2 * p) (List·getD-append l t 0 3 (omega arith))
@@ -49,49 +54,63 @@ module _ (t : List ℕ) (more : 0 < length t) where
 
   -- ---- arcs
   module _ (c : Counts) where
-    arcs-after : (m : ℕ) (l : List ℕ) → Hold (arcsTests m c l) → firstFault (arcsTests m c (l ++ t)) c ≡ Refused 9
+    arcs-after : (m at : ℕ) (l : List ℕ) → Hold (arcsTests m c at l) → firstFault (arcsTests m c at (l ++ t)) c ≡ Refused 9 (at + length l)
     unfolding arcsTests firstFault
-    arcs-after zero l h = rw (lt-leb (length (l ++ t)) 0 (omega (arith, length-append l t)))
-    arcs-after (suc m) l h =
-        let q = each-split Holds (arcTests c l) (arcsTests m c (drop (arcSize l) l)) h in
-        let a = arc-seen c l (q .0) in
+    arcs-after zero at l h =
+        let none = leb-true (length l) 0 (h .0) in
+        let e : at ≡ at + length l = omega arith in
+        rw (lt-leb (length (l ++ t)) 0 (omega (arith, length-append l t))) (ap (λ (n : ℕ). Refused 9 n) e)
+    arcs-after (suc m) at l h =
+        let q = each-split Holds (arcTests c at l) (arcsTests m c (at + arcSize l) (drop (arcSize l) l)) h in
+        let a = arc-seen c at l (q .0) in
         let four : 4 ≤ length l = omega (arith, a .whole) in
         let n = length-append l t in
         let size = size-front l four in
+        let f = fields-longer c l four (a .fields) in
+        let end : at + arcSize l + length (drop (arcSize l) l) ≡ at + length l = omega (arith, length-drop (arcSize l) l, a .whole) in
         rw (
           le-leb 4 (length (l ++ t)) (omega arith),
-          fields-front c l four ∙ a .fields,
+          f .0,
+          f .1 .0,
+          f .1 .1 .0,
+          f .1 .1 .1 .0,
           le-leb (arcSize (l ++ t)) (length (l ++ t)) (omega (arith, a .whole)),
           arc-ops c l four (a .whole) ∙ a .ops,
           rest-front l four (a .whole),
-        ) (arcs-after m (drop (arcSize l) l) (q .1))
+          size,
+        ) (arcs-after m (at + arcSize l) (drop (arcSize l) l) (q .1) ∙ ap (λ (n : ℕ). Refused 9 n) end)
 
-    arcs-cut : (m : ℕ) (l : List ℕ) → Hold (arcsTests m c (l ++ t)) → firstFault (arcsTests m c l) c ≡ Refused 1
+    -- cut short: refused with 1, at some place
+    abbrev CutArcs : ℕ → ℕ → List ℕ → Type 0
+    CutArcs m at l = (place : ℕ) × (firstFault (arcsTests m c at l) c ≡ Refused 1 place)
+
+    arcs-cut : (m at : ℕ) (l : List ℕ) → Hold (arcsTests m c at (l ++ t)) → CutArcs m at l
     unfolding arcsTests firstFault
-    arcs-cut zero l h = absurd (omega (arith, leb-true (length (l ++ t)) 0 (h .0), length-append l t))
-    arcs-cut (suc m) l h = first (arcs-cut m (drop (arcSize l) l)) (leb 4 (length l)) refl
+    arcs-cut zero at l h = absurd (omega (arith, leb-true (length (l ++ t)) 0 (h .0), length-append l t))
+    arcs-cut (suc m) at l h = first (arcs-cut m (at + arcSize l) (drop (arcSize l) l)) (leb 4 (length l)) refl
       where
-        Cut : Type 0
-        Cut = firstFault (arcsTests (suc m) c l) c ≡ Refused 1
-
         Further : Type 0
-        Further = Hold (arcsTests m c (drop (arcSize l) l ++ t)) → firstFault (arcsTests m c (drop (arcSize l) l)) c ≡ Refused 1
+        Further = Hold (arcsTests m c (at + arcSize l) (drop (arcSize l) l ++ t)) → CutArcs m (at + arcSize l) (drop (arcSize l) l)
 
-        q : Hold (arcTests c (l ++ t)) × Hold (arcsTests m c (drop (arcSize (l ++ t)) (l ++ t)))
-        q = each-split Holds (arcTests c (l ++ t)) (arcsTests m c (drop (arcSize (l ++ t)) (l ++ t))) h
+        q : Hold (arcTests c at (l ++ t)) × Hold (arcsTests m c (at + arcSize (l ++ t)) (drop (arcSize (l ++ t)) (l ++ t)))
+        q = each-split Holds (arcTests c at (l ++ t)) (arcsTests m c (at + arcSize (l ++ t)) (drop (arcSize (l ++ t)) (l ++ t))) h
 
         a : ArcSeen c (l ++ t)
-        a = arc-seen c (l ++ t) (q .0)
+        a = arc-seen c at (l ++ t) (q .0)
 
-        second : Further → 4 ≤ length l → (b : Bool) → leb (arcSize l) (length l) ≡ b → Cut
-        second further four false e = rw (le-leb 4 (length l) four, sym (fields-front c l four) ∙ a .fields, e)
+        second : Further → 4 ≤ length l → (b : Bool) → leb (arcSize l) (length l) ≡ b → CutArcs (suc m) at l
+        second further four false e =
+            let f = fields-shorter c l four (a .fields) in
+            (at + 4, rw (le-leb 4 (length l) four, f .0, f .1 .0, f .1 .1 .0, f .1 .1 .1 .0, e))
         second further four true e =
             let k = leb-true _ _ e in
-            rw (le-leb 4 (length l) four, sym (fields-front c l four) ∙ a .fields, e, sym (arc-ops c l four k) ∙ a .ops)
-            (further (subst (λ r. Hold (arcsTests m c r)) (rest-front l four k) (q .1)))
+            let f = fields-shorter c l four (a .fields) in
+            let rest = rw (rest-front l four k, size-front l four) at (q .1) in
+            let r = further rest in
+            (r .0, rw (le-leb 4 (length l) four, f .0, f .1 .0, f .1 .1 .0, f .1 .1 .1 .0, e, sym (arc-ops c l four k) ∙ a .ops) (r .1))
 
-        first : Further → (b : Bool) → leb 4 (length l) ≡ b → Cut
-        first further false e = rw e
+        first : Further → (b : Bool) → leb 4 (length l) ≡ b → CutArcs (suc m) at l
+        first further false e = (at, rw e)
         first further true e = second further (leb-true _ _ e) (leb (arcSize l) (length l)) refl
 
   -- ---- the file
@@ -114,7 +133,7 @@ module _ (t : List ℕ) (more : 0 < length t) where
     version-front : 12 ≤ length s → two longer 3 ≡ two s 3
     version-front h = rw (front 3 (omega arith), front 4 (omega arith))
 
-    pub longer-refused : (c : Counts) → readingOf s ≡ Valid c → readingOf longer ≡ Refused 9
+    pub longer-refused : (c : Counts) → readingOf s ≡ Valid c → readingOf longer ≡ Refused 9 (length s)
     unfolding firstFault
     longer-refused c e =
         after-header longer (hold-valid (headerTests longer) (countsOf longer) (seen-header longer header) ∙ ap Valid (counts-front (f .header .twelve) ∙ f .counts))
@@ -124,10 +143,13 @@ module _ (t : List ℕ) (more : 0 < length t) where
           le-leb (firstArc c) (length longer) (omega (arith, f .there, more-bytes)),
           ap flags (part-front (12 + c .letters) (c .states) s (f .there)) ∙ f .flags,
           drop-append-le (firstArc c) s t (f .there),
-        ) (arcs-after c (c .arcs) (drop (firstArc c) s) (f .arcs))
+        ) (arcs-after c (c .arcs) (firstArc c) (drop (firstArc c) s) (f .arcs) ∙ ap (λ (n : ℕ). Refused 9 n) end)
       where
         f : FileSeen c s
         f = file-seen s c e
+
+        end : firstArc c + length (drop (firstArc c) s) ≡ length s
+        end = omega (arith, length-drop (firstArc c) s, f .there)
 
         header : HeaderSeen longer
         header =
@@ -139,7 +161,7 @@ module _ (t : List ℕ) (more : 0 < length t) where
               ranges = subst (λ (d : Counts). Ranges d) (sym (counts-front h)) (f .header .ranges);
             }
 
-    pub shorter-refused : (c : Counts) → readingOf longer ≡ Valid c → readingOf s ≡ Refused 1
+    pub shorter-refused : (c : Counts) → readingOf longer ≡ Valid c → (place : ℕ) × (readingOf s ≡ Refused 1 place)
     unfolding readingOf firstFault
     shorter-refused c e = start (leb 12 (length s)) refl
       where
@@ -155,25 +177,28 @@ module _ (t : List ℕ) (more : 0 < length t) where
         }
 
         Cut : Type 0
-        Cut = firstFault (bodyTests c s) c ≡ Refused 1
+        Cut = (place : ℕ) × (firstFault (bodyTests c s) c ≡ Refused 1 place)
 
-        arcs : firstArc c ≤ length s → Hold (arcsTests (c .arcs) c (drop (firstArc c) s ++ t))
-        arcs h = subst (λ l. Hold (arcsTests (c .arcs) c l)) (drop-append-le (firstArc c) s t h) (f .arcs)
+        arcs : firstArc c ≤ length s → Hold (arcsTests (c .arcs) c (firstArc c) (drop (firstArc c) s ++ t))
+        arcs h = subst (λ l. Hold (arcsTests (c .arcs) c (firstArc c) l)) (drop-append-le (firstArc c) s t h) (f .arcs)
 
         to-arcs : 12 + c .letters ≤ length s → (b : Bool) → leb (firstArc c) (length s) ≡ b → Cut
-        to-arcs h false g = rw (le-leb (12 + c .letters) (length s) h, sym (ap ascending (part-front 12 (c .letters) s h)) ∙ f .rising, g)
+        to-arcs h false g = (12 + c .letters, rw (le-leb (12 + c .letters) (length s) h, sym (ap ascending (part-front 12 (c .letters) s h)) ∙ f .rising, g))
         to-arcs h true g =
             let k = leb-true _ _ g in
-            rw (le-leb (12 + c .letters) (length s) h, sym (ap ascending (part-front 12 (c .letters) s h)) ∙ f .rising, g, sym (ap flags (part-front (12 + c .letters) (c .states) s k)) ∙ f .flags)
-            (arcs-cut c (c .arcs) (drop (firstArc c) s) (arcs k))
+            let r = arcs-cut c (c .arcs) (firstArc c) (drop (firstArc c) s) (arcs k) in (
+              r .0,
+              rw (le-leb (12 + c .letters) (length s) h, sym (ap ascending (part-front 12 (c .letters) s h)) ∙ f .rising, g, sym (ap flags (part-front (12 + c .letters) (c .states) s k)) ∙ f .flags)
+                  (r .1),
+            )
 
         to-flags : (b : Bool) → leb (12 + c .letters) (length s) ≡ b → Cut
-        to-flags false g = rw g
+        to-flags false g = (12, rw g)
         to-flags true g = to-arcs (leb-true _ _ g) (leb (firstArc c) (length s)) refl
 
-        start : (b : Bool) → leb 12 (length s) ≡ b → readingOf s ≡ Refused 1
-        start false g = rw g
+        start : (b : Bool) → leb 12 (length s) ≡ b → (place : ℕ) × (readingOf s ≡ Refused 1 place)
+        start false g = (0, rw g)
         start true g =
             let h = leb-true _ _ g in
-            after-header s (hold-valid (headerTests s) (countsOf s) (seen-header s (header h)) ∙ ap Valid (sym (counts-front h) ∙ f .counts))
-            ∙ to-flags (leb (12 + c .letters) (length s)) refl
+            let r = to-flags (leb (12 + c .letters) (length s)) refl in
+            (r .0, after-header s (hold-valid (headerTests s) (countsOf s) (seen-header s (header h)) ∙ ap Valid (sym (counts-front h) ∙ f .counts)) ∙ r .1)

@@ -7,7 +7,8 @@ pub mod Refusals
 pub mod ValidLaws
 pub mod EncodingLaws
 pub mod CanonicalLaws
-pub mod RefusalLaws
+pub mod FaultLaws
+pub mod PlaceLaws
 pub mod FrontLaws
 pub mod ArcLaws
 pub mod Fitting

@@ -1,7 +1,7 @@
 -- Promise: what a caller may rely on, of any list of bytes s that `read` is handed and of any automaton x.
 -- `read` answers `readingOf` of the file (crates/format/specs/Reading.antt): its contract is that equation.
-use mathlib.Core.Path.{_≡_, refl, sym, ap, _∙_, subst}
-use mathlib.Core.Logic.{_↔_, _≢_}
+use mathlib.Core.Path.{_≡_, refl, sym, ap, ap₂, _∙_, subst}
+use mathlib.Core.Logic.{_↔_, _⊎_, _≢_, inl, inr}
 use mathlib.Core.List.{List, _++_}
 use Prim.Native.Nat.{ℕ, _≤_, _<_}
 use native.Mathlib.Omega.{arith}
@@ -13,14 +13,15 @@ use Rattle.file_fields.specs.declared.Counts.{Counts}
 use Rattle.file_fields.specs.declared.Reading.{Reading}
 use Rattle.file_fields.specs.declared.Reading.the-variants.{Valid, Refused}
 use Rattle.file_fields.specs.Parts.{countsOf}
-use Rattle.format.specs.Reading.{fileTests, readingOf}
+use Rattle.format.specs.Reading.{fileTests, readingOf, told}
 use Rattle.format.specs.Decoding.{automatonOf}
 use Rattle.format.specs.Encoding.{sizes, bytesOf}
 use Rattle.format.specs.Limits.{Fits, Bytes}
-use Rattle.file_fields.proofs.Laws.{and-both}
-use Rattle.file_laws.proofs.RefusalLaws.{FirstFails, refused-first, first-refused, refused-number, Known, tests-known}
+use Rattle.file_fields.proofs.Laws.{Hold, and-both, hold-valid, valid-hold}
+use Rattle.file_laws.proofs.FaultLaws.{FirstFails, refused-first, first-refused, refused-number, Known, tests-known}
+use Rattle.file_laws.proofs.PlaceLaws.{place-most}
 use Rattle.file_laws.proofs.FrontLaws.{shorter-refused, longer-refused}
-use Rattle.file_laws.proofs.ValidLaws.{valid-sizes, valid-fits, valid-wellFormed}
+use Rattle.file_laws.proofs.ValidLaws.{valid-sizes, valid-fits, valid-longest, valid-wellFormed}
 use Rattle.file_laws.proofs.EncodingLaws.{bytes-valid, bytes-back}
 use Rattle.file_laws.proofs.CanonicalLaws.{valid-bytes}
 
@@ -31,36 +32,74 @@ valid-exactly s c b = (
   λ q. subst (λ t. readingOf t ≡ Valid c) (q .3) (bytes-valid (q .0) (q .1) ∙ ap Valid (q .2)),
 )
 
--- A file is refused, with some number, exactly if it is the bytes of no automaton within the limits.
-pub refused-exactly : (s : List ℕ) → Bytes s → ((n : ℕ) × (readingOf s ≡ Refused n)) ↔ ((x : Automaton) → Fits x → bytesOf x ≢ s)
-refused-exactly s b = (λ q x h e. never (q .1) (bytes-valid x h) e, λ none. either (readingOf s) refl none)
+-- A file is refused, with some number at some place, exactly if it is the bytes of no automaton within the limits.
+pub refused-exactly : (s : List ℕ) → Bytes s → ((n : ℕ) × (place : ℕ) × (readingOf s ≡ Refused n place)) ↔ ((x : Automaton) → Fits x → bytesOf x ≢ s)
+refused-exactly s b = (λ q x h e. never (q .2) (bytes-valid x h) e, λ none. either (readingOf s) refl none)
   where
-    never : {n : ℕ} {c : Counts} {t : List ℕ} → readingOf s ≡ Refused n → readingOf t ≡ Valid c → t ≡ s → ⊥
+    never : {n place : ℕ} {c : Counts} {t : List ℕ} → readingOf s ≡ Refused n place → readingOf t ≡ Valid c → t ≡ s → ⊥
     never p q e = let z : _≡_ {A = ℕ} 0 1 = cc in omega arith
 
-    either : (r : Reading) → readingOf s ≡ r → ((x : Automaton) → Fits x → bytesOf x ≢ s) → (n : ℕ) × (readingOf s ≡ Refused n)
-    either (Refused n) e none = (n, e)
+    either : (r : Reading) → readingOf s ≡ r → ((x : Automaton) → Fits x → bytesOf x ≢ s) → (n : ℕ) × (place : ℕ) × (readingOf s ≡ Refused n place)
+    either (Refused n place) e none = (n, place, e)
     either (Valid c) e none = absurd (none (automatonOf s) (valid-fits s c e) (valid-bytes s b c e))
 
 -- The number of a refusal is one of 1 to 9.
-pub number-range : (s : List ℕ) (n : ℕ) → readingOf s ≡ Refused n → (1 ≤ n) × (n ≤ 9)
+pub number-range : (s : List ℕ) (n : ℕ) {place : ℕ} → readingOf s ≡ Refused n place → (1 ≤ n) × (n ≤ 9)
 unfolding readingOf
 number-range s n e =
     let b = and-both (leb 1 n) (leb n 9) (refused-number Known (fileTests s) (countsOf s) (tests-known s) e) in
     (leb-true _ _ (b .0), leb-true _ _ (b .1))
 
--- A file is refused with n exactly if n is the number of the first of its tests that fails: those before it hold.
-pub number-exactly : (s : List ℕ) (n : ℕ) → (readingOf s ≡ Refused n) ↔ FirstFails n (fileTests s)
+-- A file is refused with n at a place exactly if these are the number and the place of the first of its tests that fails: those
+-- before it hold.
+pub number-exactly : (s : List ℕ) (n place : ℕ) → (readingOf s ≡ Refused n place) ↔ FirstFails n place (fileTests s)
 unfolding readingOf
-number-exactly s n = (refused-first (fileTests s) (countsOf s), first-refused (fileTests s) (countsOf s))
+number-exactly s n place = (refused-first (fileTests s) (countsOf s), first-refused (fileTests s) (countsOf s))
+
+-- The place of a fault lies in the file, or is its end.
+pub place-inside : (s : List ℕ) (n place : ℕ) → readingOf s ≡ Refused n place → place ≤ length s
+place-inside s n place e = place-most s e
+
+-- What is told of a file: the number n, the automaton b at fault and the place exactly if the first of its tests that fails has that
+-- number and that place, and b is 1, the one file handed in; where none fails, all three are 0.
+pub told-exactly : (s : List ℕ) (n b place : ℕ)
+    → ((told (readingOf s) .number ≡ n) × (told (readingOf s) .at-fault ≡ b) × (told (readingOf s) .place ≡ place))
+    ↔ ((FirstFails n place (fileTests s) × (b ≡ 1)) ⊎ (Hold (fileTests s) × (n ≡ 0) × (b ≡ 0) × (place ≡ 0)))
+unfolding readingOf
+told-exactly s n b place = go (readingOf s) refl
+  where
+    Tests : Type 0
+    Tests = (FirstFails n place (fileTests s) × (b ≡ 1)) ⊎ (Hold (fileTests s) × (n ≡ 0) × (b ≡ 0) × (place ≡ 0))
+
+    first : FirstFails n place (fileTests s) → readingOf s ≡ Refused n place
+    first = first-refused (fileTests s) (countsOf s)
+
+    valid : Hold (fileTests s) → readingOf s ≡ Valid (countsOf s)
+    valid = hold-valid (fileTests s) (countsOf s)
+
+    go : (r : Reading) → readingOf s ≡ r → ((told r .number ≡ n) × (told r .at-fault ≡ b) × (told r .place ≡ place)) ↔ Tests
+    go (Valid c) e = (λ t. inr (valid-hold (fileTests s) (countsOf s) e .0, sym (t .0), sym (t .1), sym (t .2)), back)
+      where
+        back : Tests → (0 ≡ n) × (0 ≡ b) × (0 ≡ place)
+        back (inl f) = let g = first (f .0) in let z : _≡_ {A = ℕ} 0 1 = cc in absurd (omega arith)
+        back (inr h) = (sym (h .1), sym (h .2), sym (h .3))
+    go (Refused k q) e = (λ t. inl (refused-first (fileTests s) (countsOf s) (e ∙ ap₂ Refused (t .0) (t .2)), sym (t .1)), back)
+      where
+        back : Tests → (k ≡ n) × (1 ≡ b) × (q ≡ place)
+        back (inl f) = let g = first (f .0) in (cc, sym (f .1), cc)
+        back (inr h) = let g = valid (h .0) in let z : _≡_ {A = ℕ} 0 1 = cc in absurd (omega arith)
 
 -- A valid file of which the end is missing is refused with 1 ..
-pub cut-short : (s t : List ℕ) (c : Counts) → 0 < length t → readingOf (s ++ t) ≡ Valid c → readingOf s ≡ Refused 1
+pub cut-short : (s t : List ℕ) (c : Counts) → 0 < length t → readingOf (s ++ t) ≡ Valid c → (place : ℕ) × (readingOf s ≡ Refused 1 place)
 cut-short s t c more e = shorter-refused t more s c e
 
--- .. and one with bytes after it with 9.
-pub bytes-after : (s t : List ℕ) (c : Counts) → 0 < length t → readingOf s ≡ Valid c → readingOf (s ++ t) ≡ Refused 9
+-- .. and one with bytes after it with 9, where these begin.
+pub bytes-after : (s t : List ℕ) (c : Counts) → 0 < length t → readingOf s ≡ Valid c → readingOf (s ++ t) ≡ Refused 9 (length s)
 bytes-after s t c more e = longer-refused t more s c e
+
+-- A valid file has at most 41,292 bytes.
+pub longest : (s : List ℕ) (c : Counts) → readingOf s ≡ Valid c → length s ≤ 41292
+longest s c e = valid-longest s c e
 
 -- The automaton of a valid file is well-formed, and has the counts that reading answers.
 pub valid-automaton : (s : List ℕ) (c : Counts) → readingOf s ≡ Valid c → WellFormed (automatonOf s) × (sizes (automatonOf s) ≡ c)

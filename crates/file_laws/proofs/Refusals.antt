@@ -118,7 +118,7 @@ same-letters x y h = go (sameBy eqb (x .alphabet) (y .alphabet)) (sameBy-iff eqb
 pub fault-decided : (file : List ℕ) (k : ℕ) → Decides (ltb 0 (faultOf file), faultOf file, k) (0 < faultOf file, faultOf file, k)
 fault-decided file k = decided _ (faultOf file) k (less-iff 0 (faultOf file)) (λ h. h)
 
-pub has-fault : (file : List ℕ) (n : ℕ) → readingOf file ≡ Fault n → 0 < faultOf file
+pub has-fault : (file : List ℕ) (n : ℕ) {place : ℕ} → readingOf file ≡ Fault n place → 0 < faultOf file
 has-fault file n e = omega (arith, number-range file n e .0, ap numberOf e)
 
 pub no-fault : (file : List ℕ) → faultOf file ≡ 0 → (c : Counts) × (readingOf file ≡ Valid c)
@@ -126,4 +126,4 @@ no-fault file z = go (readingOf file) refl
   where
     go : (r : Reading) → readingOf file ≡ r → (c : Counts) × (readingOf file ≡ Valid c)
     go (Valid c) e = (c, e)
-    go (Fault n) e = absurd (omega (arith, has-fault file n e))
+    go (Fault n place) e = absurd (omega (arith, has-fault file n e))

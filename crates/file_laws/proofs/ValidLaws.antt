@@ -3,10 +3,10 @@
 use mathlib.Core.Path.{_≡_, refl, sym, ap, _∙_, subst}
 use mathlib.Core.Bool.{true}
 use mathlib.Core.List.{List, map}
-use Prim.Native.Nat.{ℕ, zero, suc, _+_, _*_, _≤_}
+use Prim.Native.Nat.{ℕ, zero, suc, _+_, _-_, _*_, _≤_}
 use native.Mathlib.Omega.{arith}
 use borrow.Author.Tests.{leb-true, le-leb}
-use lib.ListN.{length, drop, length-drop, length-take, length-map}
+use lib.ListN.{length, drop, take, length-drop, length-take, length-map}
 use Rattle.automata.specs.Automaton.{Automaton, WellFormed}
 use Rattle.file_fields.specs.declared.Counts.{Counts}
 use Rattle.file_fields.specs.declared.Reading.the-variants.{Valid}
@@ -30,17 +30,18 @@ pub record FileSeen (c : Counts) (s : List ℕ) : Type 0 where
   pub rising : ascending (letterBytes c s) ≡ true
   pub there : firstArc c ≤ length s
   pub flags : flags (flagBytes c s) ≡ true
-  pub arcs : Hold (arcsTests (c .arcs) c (drop (firstArc c) s))
+  pub arcs : Hold (arcsTests (c .arcs) c (firstArc c) (drop (firstArc c) s))
 
 pub file-seen : (s : List ℕ) (c : Counts) → readingOf s ≡ Valid c → FileSeen c s
 unfolding readingOf
 file-seen s c e =
     let v = valid-hold (fileTests s) (countsOf s) e in
     let h = v .0 in
-    let body = h .1 .1 .1 .1 in
+    let counts = h .1 .1 .1 in
+    let body = counts .1 .1 .1 .1 .1 in
     subst (λ (d : Counts). FileSeen d s) (v .1) (record {
       counts = refl;
-      header = header-seen s (h .0, (h .1 .0, (h .1 .1 .0, (h .1 .1 .1 .0, tt))));
+      header = header-seen s (h .0, (h .1 .0, (h .1 .1 .0, (counts .0, (counts .1 .0, (counts .1 .1 .0, (counts .1 .1 .1 .0, (counts .1 .1 .1 .1 .0, tt))))))));
       rising = body .1 .0;
       there = leb-true _ _ (body .1 .1 .0);
       flags = body .1 .1 .1 .0;
@@ -66,12 +67,16 @@ decoded-sizes s c h =
     let m = arcs-count (c .arcs) (drop (firstArc c) s) in
     λ i. record { letters = a i; states = f i; registers = c .registers; symbols = c .symbols; arcs = m i }
 
+-- the letters as code lends them, `&s[12..12 + letters]`
+pub lent-letters : (c : Counts) (s : List ℕ) → take (12 + c .letters - 12) (drop 12 s) ≡ letterBytes c s
+lent-letters c s = let e : 12 + c .letters - 12 ≡ c .letters = omega arith in rw e
+
 module _ (s : List ℕ) (c : Counts) where
   decoded-fits : FileSeen c s → Ranges c → Fits (decoded c s)
   unfolding decoded
   decoded-fits f r =
       let same = sym (decoded-sizes s c (f .there)) in
-      let a = arcs-seen c (c .arcs) (drop (firstArc c) s) (r .symbols) (f .arcs) in
+      let a = arcs-seen c (c .arcs) (firstArc c) (drop (firstArc c) s) (r .symbols) (f .arcs) in
       fits-by (decoded c s) (subst (λ (d : Counts). Ranges d) same r) (f .rising) (subst (λ (d : Counts). Each (ArcFits d) (decoded c s .arcs)) same (a .fit))
 
   module _ (e : readingOf s ≡ Valid c) where
@@ -98,12 +103,16 @@ module _ (s : List ℕ) (c : Counts) where
     pub valid-letters : (c .letters ≤ 64) × (12 + c .letters ≤ length s)
     valid-letters = (valid-ranges .letters, omega (arith, seen .there))
 
+    pub valid-alphabet : automatonOf s .alphabet ≡ letterBytes c s
+    unfolding decoded
+    valid-alphabet = ap (λ (x : Automaton). x .alphabet) valid-decoded
+
     pub valid-arcs : automatonOf s .arcs ≡ arcsOf (c .arcs) (drop (firstArc c) s)
     unfolding decoded
     valid-arcs = ap (λ (x : Automaton). x .arcs) valid-decoded
 
     arcs : ArcsSeen c (c .arcs) (drop (firstArc c) s)
-    arcs = arcs-seen c (c .arcs) (drop (firstArc c) s) (valid-ranges .symbols) (seen .arcs)
+    arcs = arcs-seen c (c .arcs) (firstArc c) (drop (firstArc c) s) (valid-ranges .symbols) (seen .arcs)
 
     pub valid-lies : Lies (c .registers) (c .arcs) (firstArc c) s
     valid-lies = record {

@@ -1,31 +1,22 @@
 -- FileParts: the parts of a file as writers meet them: header, letters, flags, arcs; and the output once a whole file is written.
 use mathlib.Core.Path.{_∙_, _≡_, ap, refl, sym}
 use mathlib.Core.List.{List, [], _++_, _∷_, append-assoc, map}
-use Prim.Native.Nat.{_+_, _-_, ℕ}
+use Prim.Native.Nat.{_+_, ℕ}
 use native.Mathlib.Omega.{arith}
-use lib.ListN.{drop, length, length-append, take}
+use lib.ListN.{drop, length, length-append}
 use Rattle.automata.specs.Automaton.{Arc, Automaton}
 use Rattle.file_fields.specs.declared.Counts.{Counts}
 use Rattle.file_fields.specs.declared.Reading.the-variants.{Valid}
-use Rattle.format.specs.Decoding.{automatonOf, decoded}
+use Rattle.format.specs.Decoding.{automatonOf}
 use Rattle.format.specs.Encoding.{arcBytes, arcsBytes, bytesOf, flagByte, headerBytes, sizes}
-use Rattle.file_fields.specs.Parts.{letterBytes}
 use Rattle.format.specs.Reading.{readingOf}
-use Rattle.file_laws.proofs.Laws.{valid-decoded, valid-sizes}
+use Rattle.file_laws.proofs.Laws.{valid-sizes}
 use Rattle.file_writing.specs.Placing.{Appended}
 use Rattle.file_writing.proofs.Placed.{appended-length}
 
 pub header-length : (c : Counts) → length (headerBytes c) ≡ 12
 unfolding headerBytes
 header-length c = refl
-
--- the letters of a valid file, and `&s[12..12 + letters]`
-pub valid-alphabet : (s : List ℕ) (c : Counts) → readingOf s ≡ Valid c → automatonOf s .alphabet ≡ letterBytes c s
-unfolding decoded
-valid-alphabet s c e = ap (λ (x : Automaton). x .alphabet) (valid-decoded s c e)
-
-pub lent-letters : (c : Counts) (s : List ℕ) → take (12 + c .letters - 12) (drop 12 s) ≡ letterBytes c s
-lent-letters c s = let e : 12 + c .letters - 12 ≡ c .letters = omega arith in rw e
 
 -- header and letters stand before the flags
 pub front-ends : (s : List ℕ) (c : Counts) → readingOf s ≡ Valid c → (d : Counts) {old out : List ℕ} {next : ℕ} → Appended 0 (headerBytes d ++ automatonOf s .alphabet) old out next → (next ≡ 12 + c .letters) × (length out ≡ length old)

@@ -11,6 +11,7 @@ pub record Told : Type 0 where
   pub at-fault : ℕ
   pub size : ℕ
 
+-- what an answer tells
 abbrev pub told : Written → Told
 told (Bytes n) = record { number = 0; at-fault = 0; size = n }
 told (Refused n b) = record { number = n; at-fault = b; size = 0 }

@@ -12,6 +12,7 @@ ghost use Rattle.file_writing.specs.Placing.{Appended};
 use super::parts::write_copy;
 use super::parts::write_header;
 use format::Counts;
+use format::fields::flags_at;
 
 // The header of an automaton with the counts c, and the letters of a file with the counts a. Refuses nothing. Cost: the letters.
 pub fn write_front(out: &mut [u8], c: Counts, a: Counts, file: &[u8]) -> usize
@@ -19,6 +20,6 @@ pub fn write_front(out: &mut [u8], c: Counts, a: Counts, file: &[u8]) -> usize
     ensures { λ r. ⌜ Appended 0 (headerBytes c ++ automatonOf (now (file .entry)) .alphabet) (now (out .entry)) (now (out .exit)) r ⌝ }
 {
     let at = write_header(out, 0, c);
-    let end = 12 + a.letters;
+    let end = flags_at(a);
     write_copy(out, at, &file[12..end])
 }

@@ -1,4 +1,4 @@
--- Reading: what reading a file answers, its counts or the number of its first fault.
+-- Reading: what reading a file answers, its counts or the number and the place of its first fault.
 -- Renders document 01, 'The book file' and 'Refused because of what was handed in', 1 to 9: the tests of a file in the order of
 -- reading: left to right, each part there whole before any of it is looked at.
 use mathlib.Core.Bool.{Bool}
@@ -7,16 +7,30 @@ use Prim.Native.Nat.{ℕ}
 use lib.ListN.{drop}
 use Rattle.file_fields.specs.declared.Counts.{Counts}
 use Rattle.file_fields.specs.declared.Reading.{Reading}
-use Rattle.file_fields.specs.Parts.{headerTests, countsOf, letterTests, flagTests, arcsTests, firstArc, ascending, flags, firstFault}
+use Rattle.file_fields.specs.declared.Reading.the-variants.{Valid, Refused}
+use Rattle.file_fields.specs.Parts.{headerTests, countsOf, letterTests, flagTests, arcsTests, firstArc, ascending, ascendingFront, flags, flagsFront, firstFault}
 
 -- what follows the header
-abbrev pub bodyTests : Counts → List ℕ → List (Bool × ℕ)
-bodyTests c s = letterTests c s ++ (flagTests c s ++ arcsTests (c .arcs) c (drop (firstArc c) s))
+abbrev pub bodyTests : Counts → List ℕ → List (Bool × ℕ × ℕ)
+bodyTests c s = letterTests c s ++ (flagTests c s ++ arcsTests (c .arcs) c (firstArc c) (drop (firstArc c) s))
 
 -- in the order of reading
-abbrev pub fileTests : List ℕ → List (Bool × ℕ)
+abbrev pub fileTests : List ℕ → List (Bool × ℕ × ℕ)
 fileTests s = headerTests s ++ bodyTests (countsOf s) s
 
 unfoldable pub readingOf : List ℕ → Reading
-unfolding ascending flags arcsTests firstFault
+unfolding ascending ascendingFront flags flagsFront arcsTests firstFault
 readingOf s = firstFault (fileTests s) (countsOf s)
+
+-- an answer as document 01 tells it: the number of the refusal and the automaton at fault, 1 in a call with one file, each 0 where
+-- there is none; the place of the fault; the counts of a valid file
+pub record Told : Type 0 where
+  pub number : ℕ
+  pub at-fault : ℕ
+  pub place : ℕ
+  pub counts : Counts
+
+abbrev pub told : Reading → Told
+told (Valid c) = record { number = 0; at-fault = 0; place = 0; counts = c }
+told (Refused n place) =
+    record { number = n; at-fault = 1; place = place; counts = record { letters = 0; states = 0; registers = 0; symbols = 0; arcs = 0 } }

@@ -1,7 +1,8 @@
 // What follows the header: letters, final flags, arcs.
 ghost use mathlib.Core.Path.{_≡_};
 ghost use Prim.Native.Nat.{_≤_};
-ghost use Rattle.file_fields.specs.Parts.{ascending, flags, firstFault};
+ghost use lib.ListN.{length};
+ghost use Rattle.file_fields.specs.Parts.{ascending, ascendingFront, flagsFront, firstFault};
 ghost use Rattle.format.specs.Reading.{bodyTests};
 use file_arcs::read_arcs;
 use file_fields::Counts;
@@ -21,38 +22,53 @@ fn is_ascending(s: &[u8]) -> bool
     true
 }
 
-// Whether each byte is 00 or 01.
-fn are_flags(s: &[u8]) -> bool
-    ensures { λ r. ⌜ r ≡ flags (now (s .entry)) ⌝ }
+// How many bytes at the front ascend strictly. Called only where not all do.
+fn ascending_front(s: &[u8]) -> usize
+    ensures { λ r. ⌜ (r ≡ ascendingFront (now (s .entry))) × (r ≤ length (now (s .entry))) ⌝ }
+{
+    let mut i: usize = 1;
+    while i < s.len() {
+        if s[i - 1] >= s[i] {
+            return i;
+        }
+        i += 1;
+    }
+    s.len()
+}
+
+// How many bytes at the front are 00 or 01.
+fn flags_front(s: &[u8]) -> usize
+    ensures { λ r. ⌜ r ≡ flagsFront (now (s .entry)) ⌝ }
 {
     let mut i: usize = 0;
     while i < s.len() {
         if 1 < s[i] {
-            return false;
+            return i;
         }
         i += 1;
     }
-    true
+    i
 }
 
-// The counts, or the number of the first fault after the header.
+// The counts, or the first fault after the header.
 pub fn read_body(c: Counts, file: &[u8]) -> Reading
     requires { ⌜ (c .letters ≤ 64) × (c .states ≤ 256) ⌝ }
     ensures { λ r. ⌜ r ≡ firstFault (bodyTests c (now (file .entry))) c ⌝ }
 {
     let flags = 12 + c.letters;
     if file.len() < flags {
-        return Reading::Refused(1);
+        return Reading::Refused(1, 12);
     }
     if !is_ascending(&file[12..flags]) {
-        return Reading::Refused(5);
+        return Reading::Refused(5, 12 + ascending_front(&file[12..flags]));
     }
     let arcs = flags + c.states;
     if file.len() < arcs {
-        return Reading::Refused(1);
+        return Reading::Refused(1, flags);
     }
-    if !are_flags(&file[flags..arcs]) {
-        return Reading::Refused(6);
+    let known = flags_front(&file[flags..arcs]);
+    if known < c.states {
+        return Reading::Refused(6, flags + known);
     }
     read_arcs(c, file, arcs)
 }

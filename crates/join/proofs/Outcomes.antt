@@ -21,8 +21,8 @@ use Rattle.file_laws.proofs.Laws.{Decide, Decides, NoneHolds, Outcome, at-least
 use Rattle.file_writing.specs.Answers.{outputOf, told}
 use Rattle.file_writing.specs.declared.Written.{Written}
 use Rattle.file_writing.specs.declared.Written.the-variants.{Bytes, Refused}
-use Rattle.join_parts.specs.Joining.{beyond, closeTests, closedOf, joinTests, joinedOf}
-use Rattle.join.specs.Promises.{Alike, Beyond, Closed, FileOf, Joined, TwoJoined, closeConditions, joinConditions}
+use Rattle.join_parts.specs.Joining.{beyond, closeRefusals, closedOf, joinRefusals, joinedOf}
+use Rattle.join.specs.Promises.{Beyond, ClosurePromised, FileOf, JoinPromised, Promised, ValidPair, closeConditions, joinConditions}
 use Rattle.join.proofs.BeyondLaws.{beyond-iff, not-beyond}
 use Rattle.join_closure.proofs.Laws.{closure-fits}
 
@@ -46,16 +46,19 @@ stands x Words old accepts fits =
       behind = drop-at file (drop (length file) old) (length file) refl;
     }
 
--- a call with the conditions cs
+-- ---- THE GENERAL PROMISE, of a call with the refusals' conditions cs: its answer r and what it leaves in the output keep it
 module _ (cs : List (Type 0 × ℕ × ℕ)) (Ready : Type 0) (x : Automaton) (Words : List ℕ → Type 0) (old : List ℕ) where
+  -- nothing is to be refused
   abbrev Answered : Type 0
   Answered = Ready × (¬ Beyond x) × (length (bytesOf x) ≤ length old)
 
-  abbrev Ends : Written → Type 0
-  Ends r = Joined cs Ready x Words old (outputOf r (bytesOf x) old) (told r)
+  -- the answer r and the output that it says
+  abbrev Keeps : Written → Type 0
+  Keeps r = Promised cs Ready x Words old (outputOf r (bytesOf x) old) (told r)
 
   module _ (none : NoneHolds cs ↔ Answered) (file : Answered → FileOf x Words (length (bytesOf x)) old (bytesOf x ++ drop (length (bytesOf x)) old)) where
-    refused : (n b : ℕ) → 0 < n → FirstHolds cs n b → Ends (Refused n b)
+    -- a refusal; the joined file; and whichever of the two the tests say
+    refused : (n b : ℕ) → 0 < n → FirstHolds cs n b → Keeps (Refused n b)
     refused n b pos f = record {
       size = λ z. absurd (omega arith);
       file = λ z. absurd (omega arith);
@@ -64,8 +67,8 @@ module _ (cs : List (Type 0 × ℕ × ℕ)) (Ready : Type 0) (x : Automaton) (Wo
       refuses = first-exactly cs f;
     }
 
-    whole : Answered → Ends (Bytes (length (bytesOf x)))
-    whole a = record {
+    answered : Answered → Keeps (Bytes (length (bytesOf x)))
+    answered a = record {
       size = λ _. refl;
       file = λ _. file a;
       unchanged = λ q. absurd (q refl);
@@ -73,9 +76,9 @@ module _ (cs : List (Type 0 × ℕ × ℕ)) (Ready : Type 0) (x : Automaton) (Wo
       refuses = first-exactly cs (none-first cs (none .1 a));
     }
 
-    ends : (r : Written) → Outcome Refused (Bytes (length (bytesOf x))) cs r → Ends r
-    ends r (inl h) = subst Ends (sym (h .1)) (whole (none .0 (h .0)))
-    ends r (inr h) = subst Ends (sym (h .4)) (refused (h .0) (h .1) (h .2) (h .3))
+    kept : (r : Written) → Outcome Refused (Bytes (length (bytesOf x))) cs r → Keeps r
+    kept r (inl h) = subst Keeps (sym (h .1)) (answered (none .0 (h .0)))
+    kept r (inr h) = subst Keeps (sym (h .4)) (refused (h .0) (h .1) (h .2) (h .3))
 
 -- ---- two files
 module _ (join : Automaton → Automaton → Automaton) (Words : (P Q : List ℕ → Type 0) → List ℕ → Type 0)
@@ -94,14 +97,16 @@ module _ (join : Automaton → Automaton → Automaton) (Words : (P Q : List ℕ
   abbrev cs : List (Type 0 × ℕ × ℕ)
   cs = joinConditions first second x (length old)
 
-  tests-decide : Decide (joinTests first second x (length old)) cs
-  unfolding joinTests
+  -- each test of the answer decides its condition
+  tests-decide : Decide (joinRefusals first second x (length old)) cs
+  unfolding joinRefusals
   tests-decide = (
     fault-decided first 1,
     (fault-decided second 2, (letters-decided a b, (beyond-decided x, (less-decided (length old) (length (bytesOf x)) 25 0 (omega arith), tt)))),
   )
 
-  none : NoneHolds cs ↔ (Alike first second × (¬ Beyond x) × (length (bytesOf x) ≤ length old))
+  -- none holds where nothing is to be refused
+  none : NoneHolds cs ↔ (ValidPair first second × (¬ Beyond x) × (length (bytesOf x) ≤ length old))
   none = (
     λ h.
         let u = at-least 0 (faultOf first) (h .0) in
@@ -110,7 +115,8 @@ module _ (join : Automaton → Automaton → Automaton) (Words : (P Q : List ℕ
     λ p. (λ h. omega (arith, p .0 .first-valid), (λ h. omega (arith, p .0 .second-valid), (λ h. h (sym (p .0 .same-letters)), (p .1, (λ h. omega (arith, p .2), tt))))),
   )
 
-  file : (Alike first second × (¬ Beyond x) × (length (bytesOf x) ≤ length old)) → FileOf x (Words (Language a) (Language b)) (length (bytesOf x)) old (bytesOf x ++ drop (length (bytesOf x)) old)
+  -- the joined file
+  file : (ValidPair first second × (¬ Beyond x) × (length (bytesOf x) ≤ length old)) → FileOf x (Words (Language a) (Language b)) (length (bytesOf x)) old (bytesOf x ++ drop (length (bytesOf x)) old)
   file p =
       let u = no-fault first (p .0 .first-valid) in
       let v = no-fault second (p .0 .second-valid) in
@@ -119,9 +125,9 @@ module _ (join : Automaton → Automaton → Automaton) (Words : (P Q : List ℕ
       let l = p .0 .same-letters in
       stands x (Words (Language a) (Language b)) old (accepts a b (f .well-formed) (g .well-formed) l) (fits a b f g l (not-beyond x (p .1)))
 
-  pub two-joined : let r = joinedOf join first second (length old) in TwoJoined join Words first second old (outputOf r (bytesOf (join (automatonOf first) (automatonOf second))) old) (told r)
+  pub two-joined : let r = joinedOf join first second (length old) in JoinPromised join Words first second old (outputOf r (bytesOf (join (automatonOf first) (automatonOf second))) old) (told r)
   unfolding joinedOf
-  two-joined = ends cs (Alike first second) x (Words (Language a) (Language b)) old none file (joinedOf join first second (length old)) (refused-or-not Refused (Bytes (length (bytesOf x))) (joinTests first second x (length old)) cs tests-decide)
+  two-joined = kept cs (ValidPair first second) x (Words (Language a) (Language b)) old none file (joinedOf join first second (length old)) (refused-or-not Refused (Bytes (length (bytesOf x))) (joinRefusals first second x (length old)) cs tests-decide)
 
 -- ---- one file
 module _ (file old : List ℕ) where
@@ -131,23 +137,25 @@ module _ (file old : List ℕ) where
   abbrev conditions : List (Type 0 × ℕ × ℕ)
   conditions = closeConditions file closed (length old)
 
-  close-decide : Decide (closeTests file (length old)) conditions
-  unfolding closeTests
+  -- each test of the answer decides its condition
+  close-decide : Decide (closeRefusals file (length old)) conditions
+  unfolding closeRefusals
   close-decide = (fault-decided file 1, (beyond-decided closed, (less-decided (length old) (length (bytesOf closed)) 25 0 (omega arith), tt)))
 
+  -- none holds where nothing is to be refused
   none-holds : NoneHolds conditions ↔ ((faultOf file ≡ 0) × (¬ Beyond closed) × (length (bytesOf closed) ≤ length old))
   none-holds = (
     λ h. let u = at-least 0 (faultOf file) (h .0) in (omega arith, h .1 .0, at-least (length old) (length (bytesOf closed)) (h .1 .1 .0)),
     λ p. (λ h. omega (arith, p .0), (p .1, (λ h. omega (arith, p .2), tt))),
   )
 
-  pub one-closed : let r = closedOf file (length old) in Closed file old (outputOf r (bytesOf (closure (automatonOf file))) old) (told r)
+  pub one-closed : let r = closedOf file (length old) in ClosurePromised file old (outputOf r (bytesOf (closure (automatonOf file))) old) (told r)
   unfolding closedOf
   one-closed =
-      ends conditions (faultOf file ≡ 0) closed _ old none-holds
+      kept conditions (faultOf file ≡ 0) closed _ old none-holds
       (λ p.
       let v = no-fault file (p .0) in
       let f = valid-fits file (v .0) (v .1) in
       stands closed _ old (closing (automatonOf file) (f .well-formed)) (closure-fits (automatonOf file) f (not-beyond closed (p .1))))
       (closedOf file (length old))
-      (refused-or-not Refused (Bytes (length (bytesOf closed))) (closeTests file (length old)) conditions close-decide)
+      (refused-or-not Refused (Bytes (length (bytesOf closed))) (closeRefusals file (length old)) conditions close-decide)

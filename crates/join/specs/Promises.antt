@@ -1,7 +1,7 @@
 -- Promises: what is promised of a call that joins files, told of the bytes lent and the bytes left (document 01, 'Joining books' and
 -- both 'Refused' sections). A word is a list of bytes of any length; that it is accepted is document 003's (automata's specs/Words.antt).
 use mathlib.Core.Path.{_≡_}
-use mathlib.Core.Logic.{_↔_, _≢_, _⊎_}
+use mathlib.Core.Logic.{_↔_, _≢_}
 use mathlib.Core.List.{List, List·Memᴰ, [], _∷_}
 use Prim.Native.Nat.{_<_, _≤_, ℕ}
 use lib.ListN.{drop, length, take}
@@ -31,7 +31,7 @@ pub record FileOf (x : Automaton) (Words : List ℕ → Type 0) (n : ℕ) (old o
   pub behind : drop n out ≡ drop n old
 
 -- ---- document 01's refusals in their order: a condition, the number, and the automaton at fault
--- two files, joined as x, or one file, closed as x
+-- of two files, joined as x
 abbrev pub joinConditions : (first second : List ℕ) → Automaton → (space : ℕ) → List (Type 0 × ℕ × ℕ)
 joinConditions first second x space =
     (0 < faultOf first, faultOf first, 1)
@@ -41,6 +41,7 @@ joinConditions first second x space =
     ∷ (space < length (bytesOf x), 25, 0)
     ∷ []
 
+-- of one file, closed as x
 abbrev pub closeConditions : (file : List ℕ) → Automaton → (space : ℕ) → List (Type 0 × ℕ × ℕ)
 closeConditions file x space =
     (0 < faultOf file, faultOf file, 1)
@@ -49,7 +50,7 @@ closeConditions file x space =
     ∷ []
 
 -- ---- what is promised of a call with these conditions; `Ready`: no file is at fault, and 10 does not hold
-pub record Joined (conditions : List (Type 0 × ℕ × ℕ)) (Ready : Type 0) (x : Automaton) (Words : List ℕ → Type 0) (old out : List ℕ) (t : Told) : Type 0 where
+pub record Promised (conditions : List (Type 0 × ℕ × ℕ)) (Ready : Type 0) (x : Automaton) (Words : List ℕ → Type 0) (old out : List ℕ) (t : Told) : Type 0 where
   -- where nothing is refused, the file is there, and its length is told
   pub size : t .number ≡ 0 → t .size ≡ length (bytesOf x)
   pub file : t .number ≡ 0 → FileOf x Words (t .size) old out
@@ -61,19 +62,19 @@ pub record Joined (conditions : List (Type 0 × ℕ × ℕ)) (Ready : Type 0) (x
   pub refuses : (n b : ℕ) → ((t .number ≡ n) × (t .at-fault ≡ b)) ↔ FirstHolds conditions n b
 
 -- both files are valid, and list the same letters
-pub record Alike (first second : List ℕ) : Type 0 where
+pub record ValidPair (first second : List ℕ) : Type 0 where
   pub first-valid : faultOf first ≡ 0
   pub second-valid : faultOf second ≡ 0
   pub same-letters : automatonOf second .alphabet ≡ automatonOf first .alphabet
 
--- of two files
-abbrev pub TwoJoined : (join : Automaton → Automaton → Automaton) (Words : (P Q : List ℕ → Type 0) → List ℕ → Type 0) (first second old out : List ℕ) → Told → Type 0
-TwoJoined join Words first second old out t =
+-- of a call that joins two files by `join`, which is to accept the words `Words` of their languages
+abbrev pub JoinPromised : (join : Automaton → Automaton → Automaton) (Words : (P Q : List ℕ → Type 0) → List ℕ → Type 0) (first second old out : List ℕ) → Told → Type 0
+JoinPromised join Words first second old out t =
     let x = join (automatonOf first) (automatonOf second) in
-    Joined (joinConditions first second x (length old)) (Alike first second) x (Words (Language (automatonOf first)) (Language (automatonOf second))) old out t
+    Promised (joinConditions first second x (length old)) (ValidPair first second) x (Words (Language (automatonOf first)) (Language (automatonOf second))) old out t
 
--- of one file: closure accepts the finite sequences of its words
-abbrev pub Closed : (file old out : List ℕ) → Told → Type 0
-Closed file old out t =
+-- of the call that closes one file: the result accepts the finite sequences of its words
+abbrev pub ClosurePromised : (file old out : List ℕ) → Told → Type 0
+ClosurePromised file old out t =
     let x = closure (automatonOf file) in
-    Joined (closeConditions file x (length old)) (faultOf file ≡ 0) x (Star (Language (automatonOf file))) old out t
+    Promised (closeConditions file x (length old)) (faultOf file ≡ 0) x (Star (Language (automatonOf file))) old out t

@@ -8,10 +8,10 @@ ghost use Rattle.format.specs.Decoding.{automatonOf};
 ghost use Rattle.format.specs.Encoding.{bytesOf};
 ghost use Rattle.file_writing.specs.Answers.{outputOf};
 ghost use Rattle.join_parts.specs.Joining.{joinedOf, closedOf};
+use file_pair::Files;
+use file_pair::read_files;
 use file_writing::Written;
 use format::Reading;
-use join_parts::files::Files;
-use join_parts::files::read_files;
 
 // Writes an automaton that accepts the words of either: a new state 0 with an empty move into each.
 // Refuses, in this order: 1 to 9, the first file's fault; 1 to 9, the second's; 10, the letter lists differ; 11, the joined

@@ -46,6 +46,7 @@ fn return_size(n: usize) -> usize
     if n < 2 { 6 } else { 2 + 2 * n }
 }
 
+// The arcs of the closure: the added empty move, those of the file, then a return from each final state.
 fn write_closure_arcs(out: &mut [u8], at: usize, a: Counts, file: &[u8]) -> usize
     requires { ⌜ (readingOf (now file) ≡ Valid a) × (1 + a .states ≤ 256) × (at + length (arcsBytes (closure (automatonOf (now file)) .arcs)) ≤ length (now out)) ⌝ }
     ensures { λ r. ⌜ Appended at (arcsBytes (closure (automatonOf (now (file .entry))) .arcs)) (now (out .entry)) (now (out .exit)) r ⌝ }
@@ -55,6 +56,7 @@ fn write_closure_arcs(out: &mut [u8], at: usize, a: Counts, file: &[u8]) -> usiz
     write_final_arcs(out, returns, a, file, 1, 1, a.registers)
 }
 
+// The whole closure, with the counts c.
 fn write_closure(out: &mut [u8], c: Counts, a: Counts, file: &[u8]) -> usize
     requires { ⌜ (readingOf (now file) ≡ Valid a) × (sizes (closure (automatonOf (now file))) ≡ c) × Fits (closure (automatonOf (now file))) × (length (bytesOf (closure (automatonOf (now file)))) ≤ length (now out)) ⌝ }
     ensures { λ r. ⌜ Appended 0 (bytesOf (closure (automatonOf (now (file .entry))))) (now (out .entry)) (now (out .exit)) r ⌝ }

@@ -10,7 +10,8 @@ ghost use Rattle.format.specs.Encoding.{sizes, arcsBytes, bytesOf};
 ghost use Rattle.format.specs.Limits.{Ranges, Fits};
 ghost use Rattle.file_writing.specs.Placing.{Appended};
 ghost use Rattle.file_writing.specs.Answers.{outputOf};
-ghost use Rattle.join_parts.specs.Joining.{Joinable, writtenOf};
+ghost use Rattle.file_pair.specs.Pair.{Joinable};
+ghost use Rattle.join_parts.specs.Joining.{writtenOf};
 use file_writing::Written;
 use file_writing::front::write_front;
 use file_writing::parts::write_zeros;
@@ -37,6 +38,7 @@ fn concatenation_counts(a: Counts, finals: usize, b: Counts) -> Counts
     }
 }
 
+// The arcs of the concatenation: those of the first, the added empty moves, then those of the second.
 fn write_concatenation_arcs(
     out: &mut [u8],
     at: usize,
@@ -54,6 +56,7 @@ fn write_concatenation_arcs(
     write_moved_arcs(out, right, b, second, a.states, shift)
 }
 
+// The whole concatenation, with the counts c.
 fn write_concatenation(
     out: &mut [u8],
     c: Counts,

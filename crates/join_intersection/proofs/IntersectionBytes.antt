@@ -12,9 +12,9 @@ use Rattle.file_arc_writing.proofs.Laws.{ops-unmoved}
 use Rattle.file_writing.proofs.Laws.{arcs-append}
 use Rattle.join_product_count.proofs.Laws.{arc-groups}
 use Rattle.join_product_arcs.specs.declared.beside.Beside.{Beside}
-use Rattle.join_product_arcs.specs.Writing.{besideArc}
-use Rattle.join_product_count.specs.Pairing.{emptyWith, jointWith}
-use Rattle.join_intersection.proofs.FlagLaws.{both-length}
+use Rattle.join_product_arcs.specs.JointArcs.{besideArc}
+use Rattle.join_product_count.specs.ProductArcs.{emptyWith, jointWith}
+use Rattle.join_intersection.proofs.BothFlags.{both-length}
 
 -- where empty moves of the first stand, beside n states; and those of the second, which has n states, beside m
 abbrev pub ofFirst : ℕ → Beside

@@ -1,4 +1,4 @@
-pub mod FlagLaws
+pub mod BothFlags
 pub mod ManyOps
 pub mod IntersectionBytes
 pub mod IntersectionFits

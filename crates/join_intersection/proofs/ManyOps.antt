@@ -12,7 +12,7 @@ use Rattle.format.specs.Encoding.{sizes}
 use Rattle.file_writing.specs.declared.Written.the-variants.{Refused}
 use Rattle.join_parts.specs.Joining.{beyond, manyCounts, manyOps, writtenOf}
 use Rattle.join_parts.proofs.Laws.{FewOps, each-imply, none-passes}
-use Rattle.join_product_count.specs.Pairing.{withArcs}
+use Rattle.join_product_count.specs.ProductArcs.{withArcs}
 
 pub many-refused : (x : Automaton) (space : ℕ) → any manyOps (x .arcs) ≡ true → writtenOf x space ≡ Refused 11 0
 unfolding writtenOf beyond

@@ -12,6 +12,7 @@ ghost use Rattle.file_writing.specs.Placing.{Appended};
 use file_writing::parts::write_zeros;
 use format::Counts;
 use format::fields::byte;
+use format::fields::flags_at;
 use join_parts::flags::write_flags;
 
 // For each state of the first file, the flags of the second where it is final, else 00 as often. Cost: the pairs of states.
@@ -26,7 +27,7 @@ pub fn write_both_flags(
     requires { ⌜ (readingOf (now first) ≡ Valid a) × (readingOf (now second) ≡ Valid b) × (at + a .states * b .states ≤ length (now out)) ⌝ }
     ensures { λ r. ⌜ Appended at (map flagByte (bothFinal (automatonOf (now (first .entry)) .finals) (automatonOf (now (second .entry)) .finals))) (now (out .entry)) (now (out .exit)) r ⌝ }
 {
-    let flags = 12 + a.letters;
+    let flags = flags_at(a);
     let mut to = at;
     let mut i: usize = 0;
     while i < a.states {

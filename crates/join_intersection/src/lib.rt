@@ -10,8 +10,9 @@ ghost use Rattle.format.specs.Encoding.{sizes, arcsBytes, bytesOf};
 ghost use Rattle.format.specs.Limits.{Ranges, Fits};
 ghost use Rattle.file_writing.specs.Placing.{Appended};
 ghost use Rattle.file_writing.specs.Answers.{outputOf};
-ghost use Rattle.join_parts.specs.Joining.{Joinable, writtenOf};
-ghost use Rattle.join_product_count.specs.Pairing.{withArcs};
+ghost use Rattle.file_pair.specs.Pair.{Joinable};
+ghost use Rattle.join_parts.specs.Joining.{writtenOf};
+ghost use Rattle.join_product_count.specs.ProductArcs.{withArcs};
 use file_writing::Written;
 use file_writing::front::write_front;
 use finals::write_both_flags;
@@ -40,6 +41,7 @@ fn product_counts(a: Counts, b: Counts, arcs: usize) -> Counts
     }
 }
 
+// The arcs of the intersection: joint arcs, the empty moves of the first, then those of the second.
 fn write_product_arcs(
     out: &mut [u8],
     at: usize,
@@ -69,6 +71,7 @@ fn write_product_arcs(
     write_empty_moves(out, rights, b, second, right)
 }
 
+// The whole intersection, with the counts c.
 fn write_product(
     out: &mut [u8],
     c: Counts,

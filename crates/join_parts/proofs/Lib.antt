@@ -1,8 +1,8 @@
-pub mod EachLaws
-pub mod Limits
+pub mod EachElement
+pub mod WithinLimits
 pub mod AnswerLaws
 pub mod MovedFits
-pub mod Walking
-pub mod FileLaws
-pub mod FinalLaws
+pub mod ArcWalk
+pub mod ArcLengths
+pub mod FinalFlags
 pub mod Laws

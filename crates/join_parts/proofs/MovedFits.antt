@@ -15,7 +15,7 @@ use Rattle.file_fields.specs.declared.Counts.{Counts}
 use Rattle.file_laws.proofs.Laws.{ArcFits, OpFits}
 use Rattle.automata.specs.Lists.{Each}
 use Rattle.file_arc_writing.proofs.Laws.{cleared, cleared-count, clearing-few, clearing-more, ops-unmoved}
-use Rattle.join_parts.proofs.EachLaws.{each-imply, each-map}
+use Rattle.join_parts.proofs.EachElement.{each-imply, each-map}
 
 -- ---- an operation
 keeps-zero : (k : ℕ) (o : Op) → KeepsZero o → KeepsZero (movedOp k o)

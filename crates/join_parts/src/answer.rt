@@ -9,7 +9,9 @@ ghost use Rattle.format.specs.Encoding.{arcsBytes};
 ghost use Rattle.join_parts.specs.Joining.{manyCounts, decided};
 use file_writing::Written;
 use format::Counts;
+use format::fields::first_arc;
 
+// The larger of two numbers: symbols and registers of a union.
 pub fn larger(x: usize, y: usize) -> usize
     ensures { λ r. ⌜ r ≡ max x y ⌝ }
 {
@@ -21,7 +23,7 @@ pub fn arcs_size(c: Counts, file: &[u8]) -> usize
     requires { ⌜ readingOf (now file) ≡ Valid c ⌝ }
     ensures { λ r. ⌜ (r ≡ length (arcsBytes (automatonOf (now (file .entry)) .arcs))) × (r ≤ 41292) ⌝ }
 {
-    file.len() - (12 + c.letters + c.states)
+    file.len() - first_arc(c)
 }
 
 // Whether there are more states, registers or arcs than a file can have.

@@ -13,6 +13,7 @@ ghost use Rattle.file_writing.specs.Placing.{Appended};
 use file_arc_writing::Fields;
 use file_arc_writing::write_clearing_arc;
 use format::Counts;
+use format::fields::flags_at;
 
 // How many of the flags are those of final states.
 fn count_flags(flags: &[u8]) -> usize
@@ -55,7 +56,7 @@ pub fn count_finals(c: Counts, file: &[u8]) -> usize
     requires { ⌜ readingOf (now file) ≡ Valid c ⌝ }
     ensures { λ r. ⌜ (r ≡ length (finalStates 0 (automatonOf (now (file .entry)) .finals))) × (r ≤ c .states) ⌝ }
 {
-    let flags = 12 + c.letters;
+    let flags = flags_at(c);
     let end = flags + c.states;
     count_flags(&file[flags..end])
 }
@@ -74,7 +75,7 @@ pub fn write_final_arcs(
     requires { ⌜ (readingOf (now file) ≡ Valid c) × (s + c .states ≤ 256) × (t < 256) × (n ≤ 8) × (at + length (arcsBytes (map (λ (i : ℕ). arcFrom (s + i) none t (clearing n)) (finalStates 0 (automatonOf (now file) .finals)))) ≤ length (now out)) ⌝ }
     ensures { λ r. ⌜ Appended at (arcsBytes (map (λ (i : ℕ). arcFrom (s + i) none t (clearing n)) (finalStates 0 (automatonOf (now (file .entry)) .finals)))) (now (out .entry)) (now (out .exit)) r ⌝ }
 {
-    let flags = 12 + c.letters;
+    let flags = flags_at(c);
     let end = flags + c.states;
     write_returns(out, at, &file[flags..end], s, t, n)
 }

@@ -10,13 +10,14 @@ ghost use Rattle.format.specs.Encoding.{flagByte};
 ghost use Rattle.file_writing.specs.Placing.{Appended};
 use file_writing::parts::write_copy;
 use format::Counts;
+use format::fields::flags_at;
 
 // The final flags of a file with the counts c. Cost: its states.
 pub fn write_flags(out: &mut [u8], at: usize, c: Counts, file: &[u8]) -> usize
     requires { ⌜ (readingOf (now file) ≡ Valid c) × (at + c .states ≤ length (now out)) ⌝ }
     ensures { λ r. ⌜ Appended at (map flagByte (automatonOf (now (file .entry)) .finals)) (now (out .entry)) (now (out .exit)) r ⌝ }
 {
-    let flags = 12 + c.letters;
+    let flags = flags_at(c);
     let end = flags + c.states;
     write_copy(out, at, &file[flags..end])
 }

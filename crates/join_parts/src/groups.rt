@@ -16,6 +16,7 @@ use file_arc_writing::write_plain_arc;
 use format::Counts;
 use format::fields::arc_size;
 use format::fields::byte;
+use format::fields::first_arc;
 
 // An added empty move from state 0 to the state t.
 pub fn write_entry(out: &mut [u8], at: usize, t: usize) -> usize
@@ -57,7 +58,7 @@ pub fn write_moved_arcs(
     requires { ⌜ (readingOf (now file) ≡ Valid c) × (s + c .states ≤ 256) × (k ≤ 8) × (at + length (arcsBytes (map (movedArc s k) (automatonOf (now file) .arcs))) ≤ length (now out)) ⌝ }
     ensures { λ r. ⌜ Appended at (arcsBytes (map (movedArc s k) (automatonOf (now (file .entry)) .arcs))) (now (out .entry)) (now (out .exit)) r ⌝ }
 {
-    let mut from = 12 + c.letters + c.states;
+    let mut from = first_arc(c);
     let mut to = at;
     let mut i: usize = 0;
     while i < c.arcs {

@@ -2,7 +2,6 @@
 // the length of the result, and the writers of its parts.
 
 pub mod answer;
-pub mod files;
 pub mod finals;
 pub mod flags;
 pub mod groups;

@@ -1,3 +1,3 @@
-pub mod Besides
-pub mod Numbering
+pub mod BesideArcs
+pub mod PairNumber
 pub mod Laws

@@ -10,13 +10,14 @@ ghost use Rattle.format.specs.Reading.{readingOf};
 ghost use Rattle.format.specs.Decoding.{arcOf, automatonOf};
 ghost use Rattle.format.specs.Encoding.{arcBytes, arcsBytes};
 ghost use Rattle.file_writing.specs.Placing.{Appended};
-ghost use Rattle.join_product_arcs.specs.Writing.{besideArc};
-ghost use Rattle.join_product_count.specs.Pairing.{emptyWith};
+ghost use Rattle.join_product_arcs.specs.JointArcs.{besideArc};
+ghost use Rattle.join_product_count.specs.ProductArcs.{emptyWith};
 use file_arc_writing::Fields;
 use file_arc_writing::write_arc;
 use format::Counts;
 use format::fields::arc_size;
 use format::fields::byte;
+use format::fields::first_arc;
 
 // How many states the other has, and where an empty move stands beside one of them: state s beside state i is
 // s * scale + i * step. The registers from 1 up move by shift.
@@ -62,7 +63,7 @@ pub fn write_empty_moves(out: &mut [u8], at: usize, c: Counts, file: &[u8], b: B
     ensures { λ r. ⌜ Appended at (arcsBytes (emptyWith (besideArc b) (b .states) (automatonOf (now (file .entry)) .arcs))) (now (out .entry)) (now (out .exit)) r ⌝ }
 {
     let mut to = at;
-    let mut from = 12 + c.letters + c.states;
+    let mut from = first_arc(c);
     let mut i: usize = 0;
     while i < c.arcs {
         if byte(file, from + 1) == 255 {

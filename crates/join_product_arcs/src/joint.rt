@@ -10,13 +10,14 @@ ghost use Rattle.format.specs.Reading.{readingOf};
 ghost use Rattle.format.specs.Decoding.{arcOf, automatonOf};
 ghost use Rattle.format.specs.Encoding.{arcBytes, arcsBytes};
 ghost use Rattle.file_writing.specs.Placing.{Appended};
-ghost use Rattle.join_product_count.specs.Pairing.{jointWith};
-ghost use Rattle.join_product_arcs.specs.Writing.{Writable};
+ghost use Rattle.join_product_count.specs.ProductArcs.{jointWith};
+ghost use Rattle.join_product_arcs.specs.JointArcs.{Writable};
 use file_arc_writing::Fields;
 use file_arc_writing::write_joint_arc;
 use format::Counts;
 use format::fields::arc_size;
 use format::fields::byte;
+use format::fields::first_arc;
 
 // The arc at a place of the first file with the one at a place of the second, which has n states, and whose registers from 1 up
 // move by k.
@@ -63,7 +64,7 @@ fn write_joint_with(
         return at;
     }
     let mut to = at;
-    let mut other = 12 + b.letters + b.states;
+    let mut other = first_arc(b);
     let mut i: usize = 0;
     while i < b.arcs {
         if letter == byte(second, other + 1) {
@@ -89,7 +90,7 @@ pub fn write_joint_arcs(
     ensures { λ r. ⌜ Appended at (arcsBytes (flatMap (jointWith (b .states) k (automatonOf (now (second .entry)) .arcs)) (automatonOf (now (first .entry)) .arcs))) (now (out .entry)) (now (out .exit)) r ⌝ }
 {
     let mut to = at;
-    let mut from = 12 + a.letters + a.states;
+    let mut from = first_arc(a);
     let mut i: usize = 0;
     while i < a.arcs {
         to = write_joint_with(out, to, first, from, b, second, k);

@@ -1,4 +1,4 @@
-pub mod ArcsOf
-pub mod Groups
+pub mod ProductArcLaws
+pub mod ArcGroups
 pub mod Uncounted
 pub mod Laws

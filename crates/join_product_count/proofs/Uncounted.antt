@@ -15,7 +15,7 @@ use Rattle.file_arc_writing.proofs.Laws.{arc-length}
 use Rattle.file_writing.proofs.Laws.{arcs-append}
 use Rattle.join_parts.specs.Joining.{manyOps}
 use Rattle.join_product_count.specs.declared.Tally.{Tally}
-use Rattle.join_product_count.specs.Pairing.{Tallied}
+use Rattle.join_product_count.specs.ProductArcs.{Tallied}
 
 any-append : {A : Type 0} (t : A → Bool) (l r : List A) → any t (l ++ r) ≡ (any t l || any t r)
 unfolding any

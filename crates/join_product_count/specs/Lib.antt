@@ -1,1 +1,1 @@
-pub mod Pairing
+pub mod ProductArcs

@@ -10,10 +10,11 @@ ghost use Rattle.file_fields.specs.declared.Reading.the-variants.{Valid};
 ghost use Rattle.file_fields.specs.Parts.{arcSize};
 ghost use Rattle.format.specs.Reading.{readingOf};
 ghost use Rattle.format.specs.Decoding.{arcOf, automatonOf};
-ghost use Rattle.join_product_count.specs.Pairing.{jointWith, emptyWith, Tallied};
+ghost use Rattle.join_product_count.specs.ProductArcs.{jointWith, emptyWith, Tallied};
 use format::Counts;
 use format::fields::arc_size;
 use format::fields::byte;
+use format::fields::first_arc;
 
 // What a count says of arcs: how many they are, how many bytes they take, whether one has more than 8 operations.
 pub struct Tally {
@@ -35,7 +36,7 @@ fn count_joint(first: &[u8], from: usize, b: Counts, second: &[u8]) -> Tally
     if letter == 255 {
         return Tally { arcs, size, many };
     }
-    let mut at = 12 + b.letters + b.states;
+    let mut at = first_arc(b);
     let mut i: usize = 0;
     while i < b.arcs {
         let ops = p + byte(second, at + 3);
@@ -58,7 +59,7 @@ fn count_lettered(a: Counts, first: &[u8], b: Counts, second: &[u8]) -> Tally
     let mut arcs: usize = 0;
     let mut size: usize = 0;
     let mut many = false;
-    let mut from = 12 + a.letters + a.states;
+    let mut from = first_arc(a);
     let mut i: usize = 0;
     while i < a.arcs {
         let t = count_joint(first, from, b, second);
@@ -78,7 +79,7 @@ fn count_empty(c: Counts, file: &[u8], n: usize) -> Tally
 {
     let mut arcs: usize = 0;
     let mut size: usize = 0;
-    let mut from = 12 + c.letters + c.states;
+    let mut from = first_arc(c);
     let mut i: usize = 0;
     while i < c.arcs {
         let bytes = arc_size(file, from);

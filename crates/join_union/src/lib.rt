@@ -9,7 +9,8 @@ ghost use Rattle.format.specs.Encoding.{sizes, arcsBytes, bytesOf};
 ghost use Rattle.format.specs.Limits.{Ranges, Fits};
 ghost use Rattle.file_writing.specs.Placing.{Appended};
 ghost use Rattle.file_writing.specs.Answers.{outputOf};
-ghost use Rattle.join_parts.specs.Joining.{Joinable, writtenOf};
+ghost use Rattle.file_pair.specs.Pair.{Joinable};
+ghost use Rattle.join_parts.specs.Joining.{writtenOf};
 use file_writing::Written;
 use file_writing::front::write_front;
 use file_writing::parts::write_byte;
@@ -35,6 +36,7 @@ fn union_counts(a: Counts, b: Counts) -> Counts
     }
 }
 
+// The arcs of the union: its added empty moves, the arcs of the first, then those of the second.
 fn write_union_arcs(
     out: &mut [u8],
     at: usize,
@@ -53,6 +55,7 @@ fn write_union_arcs(
     write_moved_arcs(out, right, b, second, shift, 0)
 }
 
+// The whole union, with the counts c.
 fn write_union(
     out: &mut [u8],
     c: Counts,

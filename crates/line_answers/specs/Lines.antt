@@ -29,7 +29,7 @@ validLine c =
 -- what reading a file answers; the one file handed in is automaton 1
 abbrev pub readingLine : Reading → List ℕ
 readingLine (Valid c) = validLine c
-readingLine (Fault n) = refusedLine n 1
+readingLine (Fault n place) = refusedLine n 1
 
 -- a word for the answer, and a number
 abbrev pub countLine : List ℕ → ℕ → List ℕ

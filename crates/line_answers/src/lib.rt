@@ -43,7 +43,7 @@ pub fn reading_line(r: Reading, out: &mut [u8]) -> usize
 {
     match r {
         Reading::Valid(c) => valid_line(c, out),
-        Reading::Refused(n) => refused_line(n, 1, out),
+        Reading::Refused(n, _) => refused_line(n, 1, out),
     }
 }
 

@@ -13,10 +13,10 @@ use Rattle.format.specs.Refusals.{unlessRefused}
 use Rattle.line_text.specs.Digits.{decimalOf, hexOf}
 use Rattle.line_text.specs.Line.{ascii}
 use Rattle.line_text.specs.Writing.{Writes}
-use Rattle.compare.specs.Comparing.{answerAt, bufferOf, comparedAt, comparisonOf, tests}
-use Rattle.compare.specs.Compares.{Compares, ShownBy}
-use Rattle.compare.specs.declared.Comparison.{Comparison}
-use Rattle.compare.specs.declared.Comparison.the-variants.{Different, Refused, Same}
+use Rattle.compare_promise.specs.Comparing.{answerAt, bufferOf, comparedAt, comparisonOf, refusals}
+use Rattle.compare_promise.specs.Compares.{Compares, ShownBy}
+use Rattle.compare_promise.specs.declared.Comparison.{Comparison}
+use Rattle.compare_promise.specs.declared.Comparison.the-variants.{Different, Refused, Same}
 use Rattle.line_comparison.specs.ComparisonLines.{comparisonLine, WritesComparison}
 use Rattle.line_comparison.proofs.LengthLaws.{short}
 
@@ -44,7 +44,7 @@ module _ (word old : List ℕ) where
   unfolding comparisonOf comparedAt
   alike first second words buffer =
       alike-after
-      (tests 256 2048 512 first second words buffer)
+      (refusals 256 2048 512 first second words buffer)
       (verdict (automatonOf first) (automatonOf second) 256 512)
       (cond (acceptedBytes (automatonOf first) 256 word) 1 2)
 

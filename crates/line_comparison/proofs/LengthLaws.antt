@@ -24,9 +24,9 @@ use Rattle.file_laws.proofs.Laws.{number-range}
 use Rattle.line_text.specs.Digits.{decimalOf, hexDigits, hexOf}
 use Rattle.line_text.specs.Line.{ascii}
 use Rattle.line_text.proofs.Laws.{decimal-more, decimal-one}
-use Rattle.compare.specs.Comparing.{answerAt, automataTests, bufferOf, comparedAt, comparisonOf, tests}
-use Rattle.compare.specs.declared.Comparison.{Comparison}
-use Rattle.compare.specs.declared.Comparison.the-variants.{Different, Refused, Same}
+use Rattle.compare_promise.specs.Comparing.{answerAt, bufferOf, comparedAt, comparisonOf, countRefusals, limitRefusals, refusals, tableRefusals}
+use Rattle.compare_promise.specs.declared.Comparison.{Comparison}
+use Rattle.compare_promise.specs.declared.Comparison.the-variants.{Different, Refused, Same}
 use Rattle.line_comparison.specs.ComparisonLines.{comparisonLine}
 
 -- ---- fields
@@ -80,11 +80,11 @@ small-answer x y L n taker size none h = h
 small-answer x y L n taker size (some e) h = h
 
 fault-small : (file : List ℕ) → faultOf file < 100
-fault-small file = go (readingOf file) (λ n e. number-range file n e .1) refl
+fault-small file = go (readingOf file) (λ n place e. number-range file n e .1) refl
   where
-    go : (r : Reading) → ((n : ℕ) → readingOf file ≡ Fault n → n ≤ 9) → readingOf file ≡ r → numberOf r < 100
+    go : (r : Reading) → ((n place : ℕ) → readingOf file ≡ Fault n place → n ≤ 9) → readingOf file ≡ r → numberOf r < 100
     go (Valid c) known e = omega arith
-    go (Fault n) known e = omega (arith, known n e)
+    go (Fault n place) known e = omega (arith, known n place e)
 
 module _ (first second : List ℕ) (words buffer : ℕ) (word : List ℕ) where
   abbrev x : Automaton
@@ -97,8 +97,8 @@ module _ (first second : List ℕ) (words buffer : ℕ) (word : List ℕ) where
   unfolding comparedAt verdict
   small-compared h = small-answer x y 256 (length (pairs x y 256 512)) (cond (acceptedBytes x 256 word) 1 2) (length word) (difference x y 256 512) h
 
-  all-small : AllSmall (tests 256 2048 512 first second words buffer)
-  unfolding tests automataTests
+  all-small : AllSmall (refusals 256 2048 512 first second words buffer)
+  unfolding refusals tableRefusals limitRefusals countRefusals
   all-small = (
     (omega arith, omega arith),
     (
@@ -119,13 +119,13 @@ module _ (first second : List ℕ) (words buffer : ℕ) (word : List ℕ) where
     ),
   )
 
-  few : NoneHolds (tests 256 2048 512 first second words buffer) → length (pairs x y 256 512) ≤ 512
-  unfolding tests automataTests
+  few : NoneHolds (refusals 256 2048 512 first second words buffer) → length (pairs x y 256 512) ≤ 512
+  unfolding refusals tableRefusals limitRefusals countRefusals
   few h = ltb-false 512 (length (pairs x y 256 512)) (h .1 .1 .1 .1 .1 .1 .1 .1 .0)
 
   small : Small (comparisonOf first second words buffer word)
   unfolding comparisonOf
-  small = small-after (tests 256 2048 512 first second words buffer) (comparedAt 256 512 x y word) all-small (λ h. small-compared (few h))
+  small = small-after (refusals 256 2048 512 first second words buffer) (comparedAt 256 512 x y word) all-small (λ h. small-compared (few h))
 
 -- ---- the line
 six : (b : Bool) → length (cond b (ascii "TAKES1") (ascii "TAKES2")) ≡ 6

@@ -9,10 +9,10 @@ use Rattle.line_text.specs.Line.{ascii, line}
 use Rattle.line_text.specs.Writing.{Writes}
 use Rattle.format.specs.Decoding.{automatonOf}
 use Rattle.line_answers.specs.Lines.{countLine, refusalLine, refusedLine}
-use Rattle.compare.specs.Comparing.{comparisonOf}
-use Rattle.compare.specs.Compares.{ShownBy}
-use Rattle.compare.specs.declared.Comparison.{Comparison}
-use Rattle.compare.specs.declared.Comparison.the-variants.{Different, Refused, Same}
+use Rattle.compare_promise.specs.Comparing.{comparisonOf}
+use Rattle.compare_promise.specs.Compares.{ShownBy}
+use Rattle.compare_promise.specs.declared.Comparison.{Comparison}
+use Rattle.compare_promise.specs.declared.Comparison.the-variants.{Different, Refused, Same}
 
 -- ---- a difference
 -- the word for it, the number of pairs, and the shown word in hexadecimal: the n bytes at the front of `word`, or all where there

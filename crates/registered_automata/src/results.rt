@@ -2,7 +2,7 @@
 ghost use mathlib.Core.Path.{_≡_};
 ghost use Rattle.registered_automata.specs.Results.{readingFields, membershipFields, writtenFields, comparisonFields};
 
-// The counts of a valid file, with number 0; or the number of the fault, and counts of 0.
+// The counts of a valid file, with number 0; or the number of the fault, the automaton at fault, which is 1, and counts of 0.
 #[repr(C)]
 pub struct Reading {
     pub letters: u64,
@@ -11,6 +11,7 @@ pub struct Reading {
     pub symbols: u64,
     pub arcs: u64,
     pub number: u8,
+    pub automaton: u8,
 }
 
 // How many configurations are live after the word, and 1 where it is accepted, else 0, with number 0; or the number of the
@@ -42,6 +43,7 @@ pub struct Comparison {
     pub taker: u8,
 }
 
+// The struct of what reading answers.
 pub fn as_reading(r: format::Reading) -> Reading
     ensures { λ x. ⌜ x ≡ readingFields r ⌝ }
 {
@@ -53,18 +55,21 @@ pub fn as_reading(r: format::Reading) -> Reading
             symbols: c.symbols as u64,
             arcs: c.arcs as u64,
             number: 0,
+            automaton: 0,
         },
-        format::Reading::Refused(n) => Reading {
+        format::Reading::Refused(n, _) => Reading {
             letters: 0,
             states: 0,
             registers: 0,
             symbols: 0,
             arcs: 0,
             number: n,
+            automaton: 1,
         },
     }
 }
 
+// The struct of what membership answers.
 pub fn as_membership(r: table::Membership) -> Membership
     ensures { λ x. ⌜ x ≡ membershipFields r ⌝ }
 {
@@ -90,6 +95,7 @@ pub fn as_membership(r: table::Membership) -> Membership
     }
 }
 
+// The struct of what a call that writes a file answers.
 pub fn as_written(r: file_writing::Written) -> Written
     ensures { λ x. ⌜ x ≡ writtenFields r ⌝ }
 {
@@ -107,6 +113,7 @@ pub fn as_written(r: file_writing::Written) -> Written
     }
 }
 
+// The struct of what comparing answers.
 pub fn as_comparison(r: compare::Comparison) -> Comparison
     ensures { λ x. ⌜ x ≡ comparisonFields r ⌝ }
 {

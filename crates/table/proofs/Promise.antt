@@ -16,7 +16,8 @@ use Rattle.automata.proofs.Laws.{membership, reaching-more}
 use Rattle.format.specs.Decoding.{automatonOf}
 use Rattle.format.specs.Refusals.{FirstHolds, faultOf}
 use Rattle.file_laws.proofs.Laws.{Decide, NoneHolds, Outcome, at-least, fault-decided, first-exactly, first-some, less-decided, no-fault, none-first, reach-decided, refused-or-not, valid-automaton}
-use Rattle.table.specs.Membership.{judged, membershipOf, tests, told}
+use Rattle.table.specs.Membership.{judged, membershipOf, told}
+use Rattle.table.specs.Opening.{openRefusals}
 use Rattle.table.specs.Promised.{Answered, Promised, conditions}
 use Rattle.table.specs.declared.Membership.{Membership}
 use Rattle.table.specs.declared.Membership.the-variants.{Accepted, Refused, Rejected}
@@ -28,9 +29,9 @@ module _ (file word : List ℕ) (words : ℕ) where
   abbrev cs : List (Type 0 × ℕ × ℕ)
   cs = conditions file words
 
-  tests-decide : Decide (tests 256 file words) cs
-  unfolding tests
-  tests-decide = (less-decided words 8192 24 0 (omega arith), (fault-decided file 1, (reach-decided x 256 21 1 (omega arith), tt)))
+  refusals-decide : Decide (openRefusals 256 file words) cs
+  unfolding openRefusals
+  refusals-decide = (less-decided words 8192 24 0 (omega arith), (fault-decided file 1, (reach-decided x 256 21 1 (omega arith), tt)))
 
   -- ---- nothing is refused where no condition holds
   none-of : Answered file words → NoneHolds cs
@@ -67,7 +68,7 @@ module _ (file word : List ℕ) (words : ℕ) where
   -- THE PROMISE of membership.
   pub membership-promised : Promised file word words (told (membershipOf file word words))
   unfolding membershipOf
-  membership-promised = either (refused-or-not Refused (judged 256 x word) (tests 256 file words) cs tests-decide)
+  membership-promised = either (refused-or-not Refused (judged 256 x word) (openRefusals 256 file words) cs refusals-decide)
     where
       either : Outcome Refused (judged 256 x word) cs (membershipOf file word words) → Promised file word words (told (membershipOf file word words))
       either (inl h) = subst (λ (r : Membership). Promised file word words (told r)) (sym (h .1)) (answered (answered-of (h .0)))

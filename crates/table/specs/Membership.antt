@@ -1,33 +1,24 @@
 -- Membership: what membership answers of a file, a word and the number of working words lent (document 01, 'Runs and slips' and the
 -- order of refusals).
 use mathlib.Core.Bool.{Bool, cond, false, true}
-use mathlib.Core.List.{List, [], _∷_}
+use mathlib.Core.List.{List}
 use Prim.Native.Nat.{ℕ}
-use lib.Dec.{ltb}
-use lib.ListN.{length}
 use Rattle.automata.specs.Automaton.{Automaton}
-use Rattle.automata.specs.Unfolding.{acceptedBytes, configurations, liveCount}
+use Rattle.automata.specs.Unfolding.{acceptedBytes, liveCount}
 use Rattle.format.specs.Decoding.{automatonOf}
-use Rattle.format.specs.Refusals.{faultOf, unlessRefused}
+use Rattle.format.specs.Refusals.{unlessRefused}
+use Rattle.table.specs.Opening.{openRefusals}
 use Rattle.table.specs.declared.Membership.{Membership}
 use Rattle.table.specs.declared.Membership.the-variants.{Accepted, Refused, Rejected}
-
--- the refusals in their order: 24, fewer than 8,192 working words; the file's fault; 21, more than L configurations
-unfoldable pub tests : (L : ℕ) (file : List ℕ) (words : ℕ) → List (Bool × ℕ × ℕ)
-tests L file words =
-    (ltb words 8192, 24, 0)
-    ∷ (ltb 0 (faultOf file), faultOf file, 1)
-    ∷ (ltb L (length (configurations (automatonOf file) L)), 21, 1)
-    ∷ []
 
 -- the answer: whether an automaton with at most L configurations accepts the word, and how many are live
 unfoldable pub judged : ℕ → Automaton → List ℕ → Membership
 judged L x word = cond (acceptedBytes x L word) (Accepted (liveCount x L word)) (Rejected (liveCount x L word))
 
--- the whole answer, at document 01's limit
+-- the whole answer, at document 01's limit: the refusals are those of opening the file
 unfoldable pub membershipOf : (file word : List ℕ) (words : ℕ) → Membership
-unfolding tests unlessRefused
-membershipOf file word words = unlessRefused Refused (tests 256 file words) (judged 256 (automatonOf file) word)
+unfolding openRefusals unlessRefused
+membershipOf file word words = unlessRefused Refused (openRefusals 256 file words) (judged 256 (automatonOf file) word)
 
 -- an answer as document 01 tells it: the number of the refusal and the automaton at fault, each 0 where there is none; whether the
 -- word is accepted, and how many configurations are live

@@ -19,6 +19,8 @@ use format::Counts;
 use format::fields::byte;
 use table_explore::Outcome;
 use table_explore::operations::pass;
+use table_operations::configurations::configuration;
+use table_operations::configurations::state_of;
 use table_sets::into;
 use word_fields::chains::find_word;
 use word_fields::get16;
@@ -53,7 +55,7 @@ fn take_arc(
     let Outcome::Leaves(regs) = pass(file, at, own) else {
         return met;
     };
-    let key = regs + ((byte(file, at + 2) as u64) << 32);
+    let key = configuration(byte(file, at + 2), regs);
     let t = find_word(w, CONFIGS, CONFIG_HEADS, CONFIG_NEXTS, known, key);
     if t < known {
         return into(w, base, acc, letter, t, met);
@@ -80,7 +82,7 @@ fn visit_file(
 {
     let own = w[CONFIGS + c];
     let mut out = met;
-    let mut j = get16(w, ARC_HEADS, (own >> 32) as usize);
+    let mut j = get16(w, ARC_HEADS, state_of(own));
     while j < counts.arcs {
         let at = get16(w, OFFSETS, j);
         out = take_arc(file, at, own, w, base, acc, known, out);

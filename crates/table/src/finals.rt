@@ -8,6 +8,7 @@ ghost use Rattle.word_layout.specs.Layout.{configs};
 ghost use Rattle.word_sets.specs.Sets.{inSet};
 ghost use Rattle.table.specs.Finals.{stateIn, flagPlace, isFinalIn};
 use format::Counts;
+use table_operations::configurations::state_of;
 use word_layout::CONFIGS;
 
 // The final ones among the first `known` configurations, of the automaton whose file has the counts c.
@@ -20,7 +21,7 @@ pub fn final_set(file: &[u8], c: Counts, w: &[u64], known: usize) -> [u64; 4]
     let mut out = word_sets::empty();
     let mut i: usize = 0;
     while i < known {
-        let state = (w[CONFIGS + i] >> 32) as usize;
+        let state = state_of(w[CONFIGS + i]);
         if file[flags + state] == 1 {
             let more = word_sets::with(out, i);
             out = more;

@@ -2,15 +2,56 @@
 ghost use mathlib.Core.Path.{_≡_};
 ghost use lib.ListN.{length};
 ghost use Rattle.table.specs.Membership.{membershipOf};
-use block::build;
+ghost use Rattle.table.specs.Opening.{openedOf, HeldBy};
+use format::Counts;
 use table_explore::Explored;
+use table_explore::walk::explore_all;
+use word_layout::Block;
 use word_layout::FIRST_BLOCK;
+use word_rows::close_rows;
 use words::judge_word;
 
 pub mod block;
+pub mod face;
 pub mod file_steps;
 pub mod finals;
 pub mod words;
+
+// What opening a file answers: its counts and the block of its automaton; or the number of a refusal and the automaton at fault.
+pub enum Opened {
+    Refused(u8, u8),
+    Open(Counts, Block),
+}
+
+// The file is read and its configurations and plain arcs are found, in the first block, whose rows are not closed. Refuses, in this
+// order: fewer than 8,192 working words, 24 (the automaton at fault is 0); a fault of the file, 1 to 9; more than 256 configurations, 21.
+// Cost: one step for each byte of the file, and what exploring takes.
+pub fn open_file(file: &[u8], work: &mut [u64]) -> Opened
+    ensures same { λ _. ⌜ length (now (work .exit)) ≡ length (now (work .entry)) ⌝ }
+    ensures answer { λ r. ⌜ r ≡ openedOf (now (file .entry)) (length (now (work .entry))) ⌝ }
+    ensures block { λ r. ⌜ HeldBy (now (file .entry)) (now (work .exit)) r ⌝ }
+{
+    if work.len() < 8192 {
+        return Opened::Refused(24, 0);
+    }
+    let reading = format::read(file);
+    let format::Reading::Valid(c) = reading else {
+        return Opened::Refused(reading.number(), 1);
+    };
+    let Explored::Tables {
+        configurations: count,
+        plain,
+    } = explore_all(file, c, work, FIRST_BLOCK)
+    else {
+        return Opened::Refused(21, 1);
+    };
+    let block = Block {
+        base: FIRST_BLOCK,
+        count,
+        plain,
+    };
+    Opened::Open(c, block)
+}
 
 // What membership answers: whether the word is accepted, with the number of configurations live after it; or the number of a
 // refusal and the automaton at fault.
@@ -33,19 +74,11 @@ pub fn accepts(file: &[u8], word: &[u8], work: &mut [u64]) -> Membership
     ensures same { λ _. ⌜ length (now (work .exit)) ≡ length (now (work .entry)) ⌝ }
     ensures answer { λ r. ⌜ r ≡ membershipOf (now (file .entry)) (now (word .entry)) (length (now (work .entry))) ⌝ }
 {
-    if work.len() < 8192 {
-        return Membership::Refused(24, 0);
+    match open_file(file, work) {
+        Opened::Refused(number, at_fault) => Membership::Refused(number, at_fault),
+        Opened::Open(c, block) => {
+            close_rows(work, block.base, block.count);
+            judge_word(file, c, word, work, block.base, block.count, block.plain)
+        }
     }
-    let reading = format::read(file);
-    let format::Reading::Valid(c) = reading else {
-        return Membership::Refused(reading.number(), 1);
-    };
-    let Explored::Tables {
-        configurations: known,
-        plain,
-    } = build(file, c, work, FIRST_BLOCK)
-    else {
-        return Membership::Refused(21, 1);
-    };
-    judge_word(file, c, word, work, FIRST_BLOCK, known, plain)
 }

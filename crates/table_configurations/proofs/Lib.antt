@@ -1,5 +1,5 @@
-pub mod Numbering
-pub mod Fields
-pub mod Tabling
-pub mod Finding
+pub mod NumberedArcs
+pub mod FieldLists
+pub mod TableGrowth
+pub mod FindConfiguration
 pub mod Laws

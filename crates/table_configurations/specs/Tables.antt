@@ -9,7 +9,7 @@ use mathlib.Core.Option.{Option, none}
 use Rattle.automata.specs.Exploration.{Distinct, add, addAll, number}
 use Rattle.automata.specs.Lists.{countFrom}
 use Rattle.automata.specs.Live.{Moves, PlainArc}
-use Rattle.word_layout.specs.Layout.{arcsAt, configHeads, configNexts, configs}
+use Rattle.word_layout.specs.Layout.{arcsAt, configHeads, configNexts, configs, packedArc}
 use Rattle.table_operations.specs.Packed.{Hop, tos}
 use Rattle.table_configurations.specs.Known.{plainArc, plainsOf}
 use Rattle.table_configurations.specs.declared.Explored.{Explored}
@@ -26,7 +26,7 @@ fieldsOf w at n = map (λ i. field w at i) (countFrom 0 n)
 
 -- a plain arc as it is listed, without its source, which its place says: its letter's byte and its target
 abbrev pub listed : PlainArc → ℕ
-listed p = letterByte (p .letter) * 256 + p .target
+listed p = packedArc (letterByte (p .letter)) (p .target)
 
 -- the table of configurations has `known` words, each with a state below 256, and chains that find them
 pub record Configured (w : List ℕ) (known : ℕ) : Type 0 where

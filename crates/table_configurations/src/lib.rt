@@ -11,14 +11,14 @@ ghost use Rattle.format.specs.Decoding.{letterOf};
 ghost use Rattle.word_fields.specs.Fields.{field};
 ghost use Rattle.word_fields.specs.Frame.{Kept, KeptBut};
 ghost use Rattle.word_rows.specs.Rows.{related};
-ghost use Rattle.word_layout.specs.Layout.{configs, mapEnd, arcsAt, startsAt, Placed};
+ghost use Rattle.word_layout.specs.Layout.{configs, mapEnd, arcsAt, startsAt, packedArc, Placed};
 ghost use Rattle.table_configurations.specs.Known.{plainArc};
 ghost use Rattle.table_configurations.specs.Tables.{Configured, Tabled, Safe, Met};
 use format::fields::byte;
+use table_operations::configurations::configuration;
+use table_sets::Listed;
 use word_fields::chains::add_word;
 use word_fields::chains::find_word;
-use word_fields::put16;
-use word_layout::BLOCK_ARCS;
 use word_layout::CONFIG_HEADS;
 use word_layout::CONFIG_NEXTS;
 use word_layout::CONFIGS;
@@ -62,10 +62,10 @@ fn note_empty_move(w: &mut [u64], base: usize, c: usize, letter: usize, target: 
 fn list_arc(w: &mut [u64], base: usize, plain: usize, letter: usize, target: usize)
     requires { ⌜ (letter < 256) × (target < 256) × Placed (now w) base ⌝ }
     ensures kept { λ _. ⌜ Kept (arcsAt base) (startsAt base) (now (w .entry)) (now (w .exit)) ⌝ }
-    ensures listed { λ _. ⌜ ((k : ℕ) → field (now (w .exit)) (arcsAt base) k ≡ cond (ltb plain 2048 && eqb k plain) (letter * 256 + target) (field (now (w .entry)) (arcsAt base) k)) ⌝ }
+    ensures listed { λ _. ⌜ ((k : ℕ) → field (now (w .exit)) (arcsAt base) k ≡ cond (ltb plain 2048 && eqb k plain) (packedArc letter target) (field (now (w .entry)) (arcsAt base) k)) ⌝ }
 {
     if plain < 2048 {
-        put16(w, base + BLOCK_ARCS, plain, letter * 256 + target);
+        table_sets::list_arc(w, base, plain, Listed { letter, target });
     }
 }
 
@@ -132,6 +132,6 @@ pub fn arrive(
     ensures safe { λ r. ⌜ Safe (now (w .exit)) known (plain + 1) r ⌝ }
     ensures met { λ r. ⌜ Met (now (w .entry)) (now (w .exit)) base known plain c (letterOf (getD (now (file .entry)) (at + 1) 0)) (regs + getD (now (file .entry)) (at + 2) 0 * 2 ^ 32) r ⌝ }
 {
-    let key = regs + ((byte(file, at + 2) as u64) << 32);
+    let key = configuration(byte(file, at + 2), regs);
     meet(w, base, c, known, plain, byte(file, at + 1), key)
 }

@@ -1,5 +1,5 @@
-pub mod Walked
-pub mod Going
-pub mod Walking
-pub mod Promise
+pub mod PackedWalk
+pub mod ExploreOne
+pub mod ExploreAll
+pub mod ExploredBlock
 pub mod Laws

@@ -29,17 +29,17 @@ unfolding plainAll configurations
 startOf x L s = length (plainAll x (configurations x L) 0 (take s (configurations x L)))
 
 -- the words of a block whose walk has ended, its rows not closed yet
-pub record Block (x : Automaton) (L : ℕ) (w : List ℕ) (base k p : ℕ) : Type 0 where
+pub record Walked (x : Automaton) (L : ℕ) (w : List ℕ) (base k p : ℕ) : Type 0 where
   pub configured : Configured w k
   pub table : take k (drop configs w) ≡ map pack (configurations x L)
   pub arcs : p ≤ 2048 → fieldsOf w (arcsAt base) p ≡ map listed (plainArcs x L)
   pub starts : p ≤ 2048 → (s : ℕ) → s < k → field w (startsAt base) s ≡ startOf x L s
   pub rows : (i j : ℕ) → i < k → T (related w base i j) ↔ ((j ≡ i) ⊎ Moves (plainArcs x L) i none j)
 
-abbrev pub Blocked : Automaton → ℕ → List ℕ → ℕ → Explored → Type 0
-Blocked x L w base TooMany = Unit {0}
-Blocked x L w base (Tables k p) = Block x L w base k p
+abbrev pub WalkedAs : Automaton → ℕ → List ℕ → ℕ → Explored → Type 0
+WalkedAs x L w base TooMany = Unit {0}
+WalkedAs x L w base (Tables k p) = Walked x L w base k p
 
 pub record Explores (x : Automaton) (L : ℕ) (w : List ℕ) (base : ℕ) (r : Explored) : Type 0 where
   pub answer : r ≡ exploredOf x L
-  pub block : Blocked x L w base r
+  pub block : WalkedAs x L w base r

@@ -23,13 +23,14 @@ use table_configurations::arrive;
 use table_operations::Outcome;
 use table_operations::arcs::index_arcs;
 use table_operations::arcs::link_arcs;
+use table_operations::configurations::contents_of;
+use table_operations::configurations::state_of;
 use table_operations::operations::operate_at;
+use table_sets::start_arcs;
 use word_fields::fill;
 use word_fields::get16;
-use word_fields::put16;
 use word_layout::ARC_HEADS;
 use word_layout::ARC_NEXTS;
-use word_layout::BLOCK_STARTS;
 use word_layout::CONFIG_HEADS;
 use word_layout::CONFIGS;
 use word_layout::OFFSETS;
@@ -55,12 +56,12 @@ fn explore_one(
     let own = w[CONFIGS + c];
     let mut known = from_known;
     let mut plain = from_plain;
-    let mut j = get16(w, ARC_HEADS, (own >> 32) as usize);
+    let mut j = get16(w, ARC_HEADS, state_of(own));
     'arcs: while j < counts.arcs {
         let at = get16(w, OFFSETS, j);
         j = get16(w, ARC_NEXTS, j);
         let p = byte(file, at + 3);
-        let mut regs = own & 0xFFFF_FFFF;
+        let mut regs = contents_of(own);
         let mut k: usize = 0;
         while k < p {
             match operate_at(file, at + 4 + 2 * k, regs) {
@@ -114,7 +115,7 @@ fn note_start(w: &mut [u64], base: usize, c: usize, plain: usize)
     ensures noted { λ _. ⌜ ((s : ℕ) → field (now (w .exit)) (startsAt base) s ≡ cond (leb plain 2048 && eqb s c) plain (field (now (w .entry)) (startsAt base) s)) ⌝ }
 {
     if plain <= 2048 {
-        put16(w, base + BLOCK_STARTS, c, plain);
+        start_arcs(w, base, c, plain);
     }
 }
 

@@ -8,7 +8,7 @@ use Rattle.word_fields.proofs.Laws.{chain-kept, field-same}
 use Rattle.table_sets.proofs.Laws.{SameBlock, arc-kept}
 use Rattle.word_layout.specs.Layout.{letterHeads, letterNexts, sources}
 use Rattle.table_letters.specs.Lettered.{Followable, Lettered, sourceOf}
-use Rattle.table_letters.proofs.Noting.{sourced-kept}
+use Rattle.table_letters.proofs.NoteSources.{sourced-kept}
 
 module _ {w w' : List ℕ} {base : ℕ} (b : SameBlock base w w') (same : (i : ℕ) → sources ≤ i → getD w' i 0 ≡ getD w i 0) where
   source-kept : (k : ℕ) → sourceOf w' k ≡ sourceOf w k

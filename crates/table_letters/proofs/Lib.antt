@@ -1,5 +1,5 @@
-pub mod Noting
-pub mod Linking
-pub mod Following
+pub mod NoteSources
+pub mod LinkLetters
+pub mod FollowLetter
 pub mod LetteredFrame
 pub mod Laws

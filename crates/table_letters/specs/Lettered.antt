@@ -1,23 +1,20 @@
 -- Lettered: the listed plain arcs of a block found by their letter. Each has its source, and is in the chain of its letter's byte.
 use mathlib.Core.Path.{_≡_}
 use mathlib.Core.List.{List}
-use Prim.Native.Nat.{ℕ, _/_, _≤_, _<_}
+use Prim.Native.Nat.{ℕ, _≤_, _<_}
 use lib.ListN.{length}
-use Rattle.word_layout.specs.Layout.{arcsAt, blockEnd, sources, letterHeads, letterNexts, letteredEnd}
+use Rattle.word_layout.specs.Layout.{blockEnd, sources, letterHeads, letterNexts, letteredEnd}
 use Rattle.word_fields.specs.Chains.{Chain}
 use Rattle.word_fields.specs.Fields.{field}
-use Rattle.table_sets.specs.Stepping.{endAt, startAt}
+use Rattle.table_sets.specs.Stepping.{endAt, letterAt, startAt}
 
 -- the source of listed arc k
 abbrev pub sourceOf : List ℕ → ℕ → ℕ
 sourceOf w k = field w sources k
 
--- the letter's byte of listed arc k
-abbrev pub byteOf : List ℕ → ℕ → ℕ → ℕ
-byteOf w base k = field w (arcsAt base) k / 256
-
+-- the listed arcs are in the chains of their letters' bytes
 abbrev pub LetterChain : List ℕ → ℕ → ℕ → Type 0
-LetterChain w base plain = Chain (byteOf w base) w letterHeads letterNexts 256 plain
+LetterChain w base plain = Chain (letterAt w base) w letterHeads letterNexts 256 plain
 
 -- listed arc k stands among those of configuration s
 abbrev pub Stands : List ℕ → (base count plain s k : ℕ) → Type 0

@@ -11,12 +11,12 @@ ghost use Rattle.word_sets.specs.Sets.{view, εClosedSet};
 ghost use Rattle.table_sets.specs.Stepping.{FromList, Held, Starts};
 ghost use Rattle.table_letters.specs.Lettered.{sourceOf, LetterChain, Sourced, Followable, Lettered};
 use table_sets::end_of;
+use table_sets::first_arc;
+use table_sets::listed_arc;
 use word_fields::chains::push;
 use word_fields::fill;
 use word_fields::get16;
 use word_fields::put16;
-use word_layout::BLOCK_ARCS;
-use word_layout::BLOCK_STARTS;
 use word_layout::LETTER_HEADS;
 use word_layout::LETTER_NEXTS;
 use word_layout::SOURCES;
@@ -45,7 +45,7 @@ fn note_sources(w: &mut [u64], base: usize, count: usize, plain: usize)
 {
     let mut c: usize = 0;
     while c < count {
-        let from = get16(w, base + BLOCK_STARTS, c);
+        let from = first_arc(w, base, c);
         let to = end_of(w, base, count, plain, c);
         note_source(w, from, to, c);
         c += 1;
@@ -62,8 +62,8 @@ fn link_letters(w: &mut [u64], base: usize, plain: usize)
     fill(w, LETTER_HEADS, 64);
     let mut k: usize = 0;
     while k < plain {
-        let arc = get16(w, base + BLOCK_ARCS, k);
-        push(w, LETTER_HEADS, LETTER_NEXTS, arc / 256, k);
+        let arc = listed_arc(w, base, k);
+        push(w, LETTER_HEADS, LETTER_NEXTS, arc.letter, k);
         k += 1;
     }
 }
@@ -92,8 +92,8 @@ pub fn follow(w: &[u64], base: usize, plain: usize, set: [u64; 4], l: usize) -> 
     let mut k = get16(w, LETTER_HEADS, l);
     while k < plain {
         if word_sets::has(set, get16(w, SOURCES, k)) {
-            let target = get16(w, base + BLOCK_ARCS, k) % 256;
-            let more = word_sets::union(out, word_rows::load(w, base, target));
+            let arc = listed_arc(w, base, k);
+            let more = word_sets::union(out, word_rows::load(w, base, arc.target));
             out = more;
         }
         k = get16(w, LETTER_NEXTS, k);

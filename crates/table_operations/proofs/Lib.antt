@@ -1,6 +1,6 @@
-pub mod Packing
-pub mod Meaning
-pub mod Performing
-pub mod Places
-pub mod Linking
+pub mod PackedWord
+pub mod PackedMeaning
+pub mod OperationLoop
+pub mod ArcPlaces
+pub mod LinkArcs
 pub mod Laws

@@ -1,5 +1,5 @@
 -- Packed: configurations as numbers, and what arcs make of them, computed from the bytes of a file. The code computes these
--- definitions; proofs/Meaning.antt says that they are the images of those of crate automata, so no promise cites them.
+-- definitions; proofs/PackedMeaning.antt says that they are the images of those of crate automata, so no promise cites them.
 use Prim.Native.Nat.{_%_, _*_, _+_, _-_, _/_, _<_, _^_, suc, zero, ℕ}
 use lib.Dec.{eqb}
 use lib.ListN.{drop, getD}

@@ -5,6 +5,7 @@ ghost use lib.ListN.{length, getD, drop};
 ghost use Rattle.table_operations.specs.Arcs.{ArcAt};
 ghost use Rattle.table_operations.specs.Packed.{actPacked, performPacked, Fitting};
 use super::Outcome;
+use super::configurations::contents_of;
 use format::fields::byte;
 use format::fields::operation_kind;
 use format::fields::operation_register;
@@ -42,7 +43,7 @@ pub fn pass(file: &[u8], at: usize, own: u64) -> Outcome
     ensures { λ r. ⌜ (r ≡ performPacked (getD (now (file .entry)) (at + 3) 0) (drop (at + 4) (now (file .entry))) (own % 2 ^ 32)) × Fitting r ⌝ }
 {
     let p = byte(file, at + 3);
-    let mut regs = own & 0xFFFF_FFFF;
+    let mut regs = contents_of(own);
     let mut k: usize = 0;
     while k < p {
         match operate_at(file, at + 4 + 2 * k, regs) {

@@ -4,4 +4,4 @@ pub use Rattle.table_sets.proofs.LetterSets.{none-met, same-sets, set-o
 -- words written elsewhere leave a block as it was, and what it stands for
 pub use Rattle.table_sets.proofs.BlockFrame.{SameBlock, arc-kept, block-but, block-kept, end-below, end-few, end-kept, held-each, held-same, list-kept, related-kept, room-kept, start-kept, starts-kept}
 -- a step by all letters at once takes each live configuration's arcs, and leaves the live set of each letter
-pub use Rattle.table_sets.proofs.Onward.{Onward, Stepping, led, stepped, stepping-more, stepping-start}
+pub use Rattle.table_sets.proofs.StepLaws.{Onward, Stepping, led, stepped, stepping-more, stepping-start}

@@ -1,4 +1,4 @@
 pub mod LetterSets
 pub mod BlockFrame
-pub mod Onward
+pub mod StepLaws
 pub mod Laws

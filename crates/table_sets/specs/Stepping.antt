@@ -1,5 +1,5 @@
 -- Stepping: what the words of a block stand for once its rows are closed, and the live sets of all letters that a step leaves.
--- Where a block has its rows, its plain arcs and their starts is said in crate table_operations, specs/Map.antt.
+-- Where a block has its rows, its plain arcs and their starts is said in crate word_layout, specs/Layout.antt.
 use mathlib.Core.Path.{_≡_}
 use mathlib.Core.Logic.{_⊎_}
 use mathlib.Core.Bool.{cond}
@@ -29,13 +29,20 @@ unfoldable pub endAt : List ℕ → ℕ → ℕ → ℕ → ℕ → ℕ
 unfolding startAt
 endAt w base count plain c = cond (ltb (c + 1) count) (startAt w base (c + 1)) plain
 
+-- the letter's byte of listed arc k, and its target
+abbrev pub letterAt : List ℕ → (base k : ℕ) → ℕ
+letterAt w base k = field w (arcsAt base) k / 256
+
+abbrev pub targetAt : List ℕ → (base k : ℕ) → ℕ
+targetAt w base k = field w (arcsAt base) k % 256
+
 -- among the arcs listed from `from` to before `to` one with letter l has j in the row of its target
 pub record Among (w : List ℕ) (base from to l j : ℕ) : Type 0 where
   pub at : ℕ
   pub low : from ≤ at
   pub high : at < to
-  pub letter : field w (arcsAt base) at / 256 ≡ l
-  pub leads : T (related w base (field w (arcsAt base) at % 256) j)
+  pub letter : letterAt w base at ≡ l
+  pub leads : T (related w base (targetAt w base at) j)
 
 -- what is listed of configuration s by letter l leads to j, of `count` configurations and `plain` arcs
 abbrev pub FromList : List ℕ → ℕ → ℕ → ℕ → ℕ → ℕ → ℕ → Type 0

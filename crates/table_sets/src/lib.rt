@@ -1,20 +1,69 @@
-// table_sets: from a live set by one more letter, for all letters at once. Each letter that is met has its set in a row from `acc`
-// on; the mask `met` says which are, so nothing has to be cleared before.
+// table_sets: the plain arcs that a block lists, by configuration; and the live sets that a step by all letters at once leaves. Each
+// letter that is met has its set in a row from `acc` on; the mask `met` says which are, so nothing has to be cleared before.
 ghost use mathlib.Core.Path.{_≡_};
-ghost use mathlib.Core.Logic.{_↔_, _⊎_};
-ghost use mathlib.Core.Bool.{_||_, _&&_};
-ghost use mathlib.Core.List.{List};
-ghost use Prim.Native.Nat.{ℕ, _+_, _*_, _≤_, _<_};
-ghost use lib.Dec.{T, eqb};
+ghost use mathlib.Core.Bool.{cond, _||_, _&&_};
+ghost use Prim.Native.Nat.{ℕ, _+_, _*_, _/_, _≤_, _<_};
+ghost use lib.Dec.{eqb};
 ghost use lib.ListN.{length};
-ghost use Rattle.automata.specs.Live.{PlainArc, byLetter};
-ghost use Rattle.word_layout.specs.Layout.{blockEnd};
+ghost use Rattle.word_layout.specs.Layout.{arcsAt, blockEnd, packedArc, startsAt};
+ghost use Rattle.word_fields.specs.Fields.{field};
 ghost use Rattle.word_fields.specs.Frame.{Kept};
-ghost use Rattle.word_sets.specs.Sets.{inSet, view, εClosedSet};
+ghost use Rattle.word_sets.specs.Sets.{inSet};
 ghost use Rattle.word_rows.specs.Rows.{related};
-ghost use Rattle.table_sets.specs.Stepping.{setOf, endAt, Among, FromList, Held, Room, Starts};
+ghost use Rattle.table_sets.specs.Stepping.{setOf, startAt, endAt, letterAt, targetAt};
+use word_fields::get16;
+use word_fields::put16;
 use word_layout::BLOCK_ARCS;
 use word_layout::BLOCK_STARTS;
+
+// A plain arc as a block lists it, without its source, which its place says: its letter's byte and its target.
+pub struct Listed {
+    pub letter: usize,
+    pub target: usize,
+}
+
+// Listed arc number k.
+// Cost: constant.
+pub fn listed_arc(w: &[u64], base: usize, k: usize) -> Listed
+    requires { ⌜ (k < 2048) × (blockEnd base ≤ length (now w)) ⌝ }
+    ensures letter { λ r. ⌜ (r .letter ≡ letterAt (now (w .entry)) base k) × (r .letter < 256) ⌝ }
+    ensures target { λ r. ⌜ (r .target ≡ targetAt (now (w .entry)) base k) × (r .target < 256) ⌝ }
+{
+    let entry = get16(w, base + BLOCK_ARCS, k);
+    Listed {
+        letter: entry / 256,
+        target: entry % 256,
+    }
+}
+
+// Listed arc number k becomes `arc`.
+// Cost: constant.
+pub fn list_arc(w: &mut [u64], base: usize, k: usize, arc: Listed)
+    requires { ⌜ (k < 2048) × (arc .letter < 256) × (arc .target < 256) × (blockEnd base ≤ length (now w)) ⌝ }
+    ensures kept { λ _. ⌜ Kept (arcsAt base + k / 4) (arcsAt base + k / 4 + 1) (now (w .entry)) (now (w .exit)) ⌝ }
+    ensures listed { λ _. ⌜ ((i : ℕ) → field (now (w .exit)) (arcsAt base) i ≡ cond (eqb i k) (packedArc (arc .letter) (arc .target)) (field (now (w .entry)) (arcsAt base) i)) ⌝ }
+{
+    put16(w, base + BLOCK_ARCS, k, arc.letter * 256 + arc.target);
+}
+
+// Where the listed arcs of configuration c start.
+// Cost: constant.
+pub fn first_arc(w: &[u64], base: usize, c: usize) -> usize
+    requires { ⌜ (c < 256) × (blockEnd base ≤ length (now w)) ⌝ }
+    ensures { λ r. ⌜ r ≡ startAt (now (w .entry)) base c ⌝ }
+{
+    get16(w, base + BLOCK_STARTS, c)
+}
+
+// The listed arcs of configuration c start at number k.
+// Cost: constant.
+pub fn start_arcs(w: &mut [u64], base: usize, c: usize, k: usize)
+    requires { ⌜ (c < 256) × (k ≤ 2048) × (blockEnd base ≤ length (now w)) ⌝ }
+    ensures kept { λ _. ⌜ Kept (startsAt base + c / 4) (startsAt base + c / 4 + 1) (now (w .entry)) (now (w .exit)) ⌝ }
+    ensures starts { λ _. ⌜ ((i : ℕ) → field (now (w .exit)) (startsAt base) i ≡ cond (eqb i c) k (field (now (w .entry)) (startsAt base) i)) ⌝ }
+{
+    put16(w, base + BLOCK_STARTS, c, k);
+}
 
 // The set of letter l; empty where l is not met.
 // Cost: constant.
@@ -53,7 +102,7 @@ pub fn end_of(w: &[u64], base: usize, count: usize, plain: usize, c: usize) -> u
     ensures { λ r. ⌜ r ≡ endAt (now (w .entry)) base count plain c ⌝ }
 {
     if c + 1 < count {
-        word_fields::get16(w, base + BLOCK_STARTS, c + 1)
+        first_arc(w, base, c + 1)
     } else {
         plain
     }

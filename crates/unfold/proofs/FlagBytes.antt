@@ -9,7 +9,7 @@ use Rattle.automata.proofs.Laws.{map-map}
 use Rattle.format.specs.Encoding.{flagByte}
 use Rattle.word_sets.specs.Sets.{inSet, view}
 use Rattle.file_arc_writing.proofs.Laws.{count-length}
-use Rattle.unfold.proofs.Counted.{table-counted}
+use Rattle.unfold.proofs.CountedLists.{table-counted}
 
 abbrev pub flagIn : List ℕ → ℕ → ℕ
 flagIn s j = flagByte (inSet s j)

@@ -1,11 +1,10 @@
-pub mod Counted
-pub mod PlainFits
-pub mod Listing
+pub mod CountedLists
+pub mod UnfoldedFits
 pub mod ListedBytes
 pub mod FlagBytes
 pub mod UnfoldedBytes
-pub mod Explored
-pub mod Answering
+pub mod ResultBytes
+pub mod AnswerLaws
 pub mod PlainMoves
-pub mod Again
+pub mod UnfoldedTwice
 pub mod Promise

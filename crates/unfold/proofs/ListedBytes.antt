@@ -1,29 +1,31 @@
--- ListedBytes: the bytes of the arcs that a block lists, one step and the end, as the writers' loops meet them.
-use mathlib.Core.Path.{_≡_}
-use mathlib.Core.List.{List, [], _++_}
+-- ListedBytes: the bytes of the plain arcs of an open file, one step and the end, as the writers' loops meet them.
+use mathlib.Core.Path.{_∙_, _≡_, ap}
+use mathlib.Core.List.{List, [], _++_, map}
 use Prim.Native.Nat.{_+_, _-_, _<_, _≤_, ℕ}
-use Rattle.word_layout.specs.Layout.{arcsAt}
+use Rattle.automata.specs.Unfolding.{asArc}
+use Rattle.automata.proofs.Laws.{map-append}
 use Rattle.format.specs.Encoding.{arcBytes, arcsBytes}
-use Rattle.word_fields.specs.Fields.{field}
+use Rattle.word_layout.specs.declared.Block.{Block}
 use Rattle.file_writing.proofs.Laws.{arcs-append}
-use Rattle.unfold.specs.Listed.{arcListed, arcsListed, arcsOfMany, arcsOfOne}
-use Rattle.unfold.proofs.Counted.{counted-next, counted-none, joined-next, joined-none}
+use Rattle.table.specs.Face.{plainAt, plainsBetween, plainsLeaving, plainsOfMany}
+use Rattle.unfold.proofs.CountedLists.{counted-next, counted-none, joined-next, joined-none}
 
-module _ (w : List ℕ) (base : ℕ) where
+module _ (w : List ℕ) (block : Block) where
   -- from configuration s
-  pub listed-next : (s i to : ℕ) → i < to → arcsBytes (arcsListed w base s i to) ≡ arcBytes (arcListed s (field w (arcsAt base) i)) ++ arcsBytes (arcsListed w base s (i + 1) to)
-  unfolding arcsBytes arcsListed
-  listed-next s i to h = rw (counted-next (λ j. arcListed s (field w (arcsAt base) j)) i to h)
+  pub listed-next : (s i to : ℕ) → i < to → arcsBytes (map asArc (plainsBetween w block s i to)) ≡ arcBytes (asArc (plainAt w block s i)) ++ arcsBytes (map asArc (plainsBetween w block s (i + 1) to))
+  unfolding arcsBytes plainsBetween
+  listed-next s i to h = rw (counted-next (plainAt w block s) i to h)
 
-  pub listed-none : (s i to : ℕ) → to ≤ i → arcsBytes (arcsListed w base s i to) ≡ []
-  unfolding arcsBytes arcsListed
-  listed-none s i to h = rw (counted-none (λ j. arcListed s (field w (arcsAt base) j)) i to h)
+  pub listed-none : (s i to : ℕ) → to ≤ i → arcsBytes (map asArc (plainsBetween w block s i to)) ≡ []
+  unfolding arcsBytes plainsBetween
+  listed-none s i to h = rw (counted-none (plainAt w block s) i to h)
 
   -- from each of the configurations that are left
-  pub many-next : (k p s : ℕ) → s < k → arcsBytes (arcsOfMany w base k p s (k - s)) ≡ arcsBytes (arcsOfOne w base k p s) ++ arcsBytes (arcsOfMany w base k p (s + 1) (k - (s + 1)))
-  unfolding arcsOfMany
-  many-next k p s h = rw (joined-next (arcsOfOne w base k p) s k h) (arcs-append (arcsOfOne w base k p s) (arcsOfMany w base k p (s + 1) (k - (s + 1))))
+  pub many-next : (k s : ℕ) → s < k → arcsBytes (map asArc (plainsOfMany w block s (k - s))) ≡ arcsBytes (map asArc (plainsLeaving w block s)) ++ arcsBytes (map asArc (plainsOfMany w block (s + 1) (k - (s + 1))))
+  unfolding plainsOfMany
+  many-next k s h = rw (joined-next (plainsLeaving w block) s k h)
+      (ap arcsBytes (map-append asArc (plainsLeaving w block s) (plainsOfMany w block (s + 1) (k - (s + 1)))) ∙ arcs-append (map asArc (plainsLeaving w block s)) (map asArc (plainsOfMany w block (s + 1) (k - (s + 1)))))
 
-  pub many-none : (k p s : ℕ) → k ≤ s → arcsBytes (arcsOfMany w base k p s (k - s)) ≡ []
-  unfolding arcsBytes arcsOfMany
-  many-none k p s h = rw (joined-none (arcsOfOne w base k p) s k h)
+  pub many-none : (k s : ℕ) → k ≤ s → arcsBytes (map asArc (plainsOfMany w block s (k - s))) ≡ []
+  unfolding arcsBytes plainsOfMany
+  many-none k s h = rw (joined-none (plainsLeaving w block) s k h)

@@ -22,10 +22,10 @@ use Rattle.file_writing.specs.declared.Written.{Written}
 use Rattle.file_writing.specs.declared.Written.the-variants.{Bytes, Refused}
 use Rattle.file_writing.specs.Answers.{outputOf, told}
 use Rattle.unfold.specs.Promised.{Answered, Promised, Unfolds, conditions}
-use Rattle.unfold.specs.Unfolding.{tests, unfoldingOf}
-use Rattle.unfold.proofs.Again.{same-many, same-plain, unfolded-again}
-use Rattle.unfold.proofs.Answering.{answer-result, result-bytes}
-use Rattle.unfold.proofs.PlainFits.{unfolded-fits}
+use Rattle.unfold.specs.Unfolding.{refusals, unfoldingOf}
+use Rattle.unfold.proofs.UnfoldedTwice.{same-many, same-plain, unfolded-again}
+use Rattle.unfold.proofs.AnswerLaws.{answer-result, result-bytes}
+use Rattle.unfold.proofs.UnfoldedFits.{unfolded-fits}
 
 -- ---- the bytes written
 module _ (file : List ℕ) (c : Counts) (valid : readingOf file ≡ Valid c) (few : length (configurations (automatonOf file) 256) ≤ 256) (few-arcs : length (plainArcs (automatonOf file) 256) ≤ 2048) where
@@ -71,9 +71,9 @@ module _ (file : List ℕ) (words : ℕ) (old : List ℕ) where
   abbrev cs : List (Type 0 × ℕ × ℕ)
   cs = conditions file words (length old)
 
-  tests-decide : Decide (tests 256 2048 file words (length old)) cs
-  unfolding tests
-  tests-decide = (
+  refusals-decide : Decide (refusals 256 2048 file words (length old)) cs
+  unfolding refusals
+  refusals-decide = (
     less-decided words 8192 24 0 (omega arith),
     (
       fault-decided file 1,
@@ -131,7 +131,7 @@ module _ (file : List ℕ) (words : ℕ) (old : List ℕ) where
   -- THE PROMISE of unfolding.
   pub unfolding-promised : let r = unfoldingOf file words (length old) in Promised file words old (outputOf r (bytesOf (unfolded (automatonOf file) 256)) old) (told r)
   unfolding unfoldingOf
-  unfolding-promised = either (refused-or-not Refused (Bytes (length written)) (tests 256 2048 file words (length old)) cs tests-decide)
+  unfolding-promised = either (refused-or-not Refused (Bytes (length written)) (refusals 256 2048 file words (length old)) cs refusals-decide)
     where
       either : Outcome Refused (Bytes (length written)) cs (unfoldingOf file words (length old)) → Right (unfoldingOf file words (length old))
       either (inl h) = subst Right (sym (h .1)) (answered (answered-of (h .0)))

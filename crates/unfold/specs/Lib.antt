@@ -1,3 +1,2 @@
 pub mod Unfolding
 pub mod Promised
-pub mod Listed

@@ -9,9 +9,8 @@ ghost use Rattle.file_writing.specs.Answers.{outputOf};
 ghost use Rattle.unfold.specs.Unfolding.{unfoldingOf};
 use file_writing::Written;
 use result::write_result;
-use table_explore::Explored;
-use table_explore::walk::explore_all;
-use word_layout::FIRST_BLOCK;
+use table::Opened;
+use table::open_file;
 
 mod arcs;
 mod flags;
@@ -31,19 +30,8 @@ pub fn unfold(file: &[u8], work: &mut [u64], out: &mut [u8]) -> Written
     ensures answer { λ r. ⌜ r ≡ unfoldingOf (now (file .entry)) (length (now (work .entry))) (length (now (out .entry))) ⌝ }
     ensures output { λ r. ⌜ now (out .exit) ≡ outputOf r (bytesOf (unfolded (automatonOf (now (file .entry))) 256)) (now (out .entry)) ⌝ }
 {
-    if work.len() < 8192 {
-        return Written::Refused(24, 0);
+    match open_file(file, work) {
+        Opened::Refused(number, at_fault) => Written::Refused(number, at_fault),
+        Opened::Open(c, block) => write_result(out, file, c, work, block),
     }
-    let reading = format::read(file);
-    let format::Reading::Valid(c) = reading else {
-        return Written::Refused(reading.number(), 1);
-    };
-    let Explored::Tables {
-        configurations: known,
-        plain,
-    } = explore_all(file, c, work, FIRST_BLOCK)
-    else {
-        return Written::Refused(21, 1);
-    };
-    write_result(out, file, c, work, FIRST_BLOCK, known, plain)
 }

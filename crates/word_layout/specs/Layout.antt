@@ -1,7 +1,7 @@
 -- Layout: where everything stands in the 8,192 lent words, each place once. What an automaton's building, a step and comparing write lies
 -- below the blocks, so that one statement about what is kept keeps both automata. The code has the same places by the same names
 -- (src/lib.rt).
-use Prim.Native.Nat.{ℕ, _+_, _≤_}
+use Prim.Native.Nat.{ℕ, _*_, _+_, _≤_}
 use mathlib.Core.List.{List}
 use lib.ListN.{length}
 
@@ -57,8 +57,8 @@ firstBlock = 4992
 abbrev pub secondBlock : ℕ
 secondBlock = 6592
 
--- a block: 256 rows of four words, 2,048 plain arcs in fields of 16 bits (letter's byte times 256 plus target), by source, and in
--- 256 fields where the plain arcs of each source start
+-- a block: 256 rows of four words, 2,048 plain arcs in fields of 16 bits, by source, and in 256 fields where the plain arcs of each
+-- source start
 abbrev pub arcsAt : ℕ → ℕ
 arcsAt base = base + 1024
 
@@ -67,6 +67,10 @@ startsAt base = base + 1536
 
 abbrev pub blockEnd : ℕ → ℕ
 blockEnd base = base + 1600
+
+-- a plain arc in its field: its letter's byte and its target
+abbrev pub packedArc : (letter target : ℕ) → ℕ
+packedArc letter target = letter * 256 + target
 
 -- the words are there, and the block stands above the building's tables
 pub record Placed (w : List ℕ) (base : ℕ) : Type 0 where

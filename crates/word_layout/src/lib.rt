@@ -1,5 +1,12 @@
 // word_layout: where everything stands in the 8,192 lent words, each place once (specs/Layout.antt says what stands there).
 
+// The block of an automaton: the word that it starts at, and how many configurations and plain arcs the automaton has.
+pub struct Block {
+    pub base: usize,
+    pub count: usize,
+    pub plain: usize,
+}
+
 // The tables of the building.
 pub const OFFSETS: usize = 2048;
 

@@ -2,5 +2,5 @@ pub mod Bits
 pub mod SetLaws
 pub mod Tables
 pub mod Views
-pub mod Scanning
+pub mod NextLive
 pub mod Laws

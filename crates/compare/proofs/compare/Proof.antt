@@ -1,12 +1,12 @@
--- `compare::compare` meets its contract: each way out is a case of the definition, test after test (Checking).
+-- `compare::compare` meets its contract: each way out is a case of the definition, test after test (Refusals).
 use borrow.Author.Needs.{needs}
 use mathlib.Core.Path.{_≡_, _∙_, refl, sym}
 use native.Mathlib.Omega.{arith}
 use lib.ListN.{length}
-use Rattle.join_parts.specs.Joining.{filesOf}
-use Rattle.join_parts.specs.declared.files.Files.the-variants.{Both}
-use Rattle.join_parts.proofs.Laws.{both-joinable}
-use Rattle.compare.proofs.Checking.{buffer-short, compares, files-both, files-fault, words-short}
+use Rattle.file_pair.specs.Pair.{filesOf}
+use Rattle.file_pair.specs.declared.Files.the-variants.{Both}
+use Rattle.file_pair.proofs.Laws.{both-joinable}
+use Rattle.compare.proofs.Refusals.{buffer-short, compares, files-both, files-fault, words-short}
 use Rattle.compare.proofs.compare.Statement.{statement}
 use Rattle.compare.proofs.compare.Tie as tie
 

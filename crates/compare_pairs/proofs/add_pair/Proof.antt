@@ -1,7 +1,7 @@
 -- `compare_pairs::add_pair` meets its contract: the two rows, the parent and the chain lie apart.
 use borrow.Author.Needs.{needs}
 use native.Mathlib.Omega.{arith}
-use Rattle.compare_pairs.proofs.Adding.{added}
+use Rattle.compare_pairs.proofs.AddPair.{added}
 use Rattle.compare_pairs.proofs.add_pair.Statement.{statement}
 use Rattle.compare_pairs.proofs.add_pair.Tie as tie
 

@@ -10,7 +10,7 @@ use Rattle.word_fields.proofs.Laws.{Looked, found-hit, looked-end, looked-more,
 use Rattle.word_rows.specs.Rows.{row}
 use Rattle.word_layout.specs.Layout.{pairHeads}
 use Rattle.compare_pairs.specs.Pairs.{PairAt, pairSlot}
-use Rattle.compare_pairs.proofs.Adding.{same-slot}
+use Rattle.compare_pairs.proofs.AddPair.{same-slot}
 use Rattle.compare_pairs.proofs.find_pair.Statement.{statement}
 use Rattle.compare_pairs.proofs.find_pair.Tie as tie
 

@@ -6,7 +6,7 @@ use mathlib.Core.Path.{refl}
 use Prim.Native.Nat.{_≤_}
 use Rattle.word_sets.proofs.Laws.{four}
 use Rattle.compare_pairs.specs.Pairs.{Lacking}
-use Rattle.compare_pairs.proofs.Adding.{lacking}
+use Rattle.compare_pairs.proofs.AddPair.{lacking}
 use Rattle.compare_pairs.proofs.meet.Statement.{statement}
 use Rattle.compare_pairs.proofs.meet.Tie as tie
 

@@ -21,8 +21,7 @@ unfolding related
 returns c =
     let o = c .before in
     let n = o .before in
-    let t = n .before in
-    let a = t .before .before .args in (
+    let t = n .before in (
       λ x. t .if1 .taken,
       λ x l j m. subst (λ (s : List ℕ). T (inSet s j)) (o .set-of .ensures) (c .inside .ensures .0 (not-not (c .inside .result) x) j (subst (λ (s : List ℕ). T (inSet s j)) (sym (n .load .ensures)) m)),
     )

@@ -7,7 +7,6 @@ use lib.Dec.{T}
 use Rattle.word_fields.proofs.Laws.{kept-same}
 use Rattle.word_rows.specs.Rows.{related}
 use Rattle.word_sets.specs.Sets.{inSet}
-use Rattle.table_sets.specs.Stepping.{startAt}
 use Rattle.table_sets.proofs.Laws.{end-few, none-met}
 use Rattle.compare_prune.proofs.PruneAll.{ahead-covered}
 use Rattle.compare_prune.proofs.ahead.Statement.{statement}
@@ -16,11 +15,8 @@ use Rattle.compare_prune.proofs.ahead.Tie as tie
 load-requires : tie.Need-load-requires
 load-requires c κs = let s = c .before .before in omega (arith, s .pre .0, s .pre .1 .0 .block)
 
-add-get16 : tie.Need-add-get16
-add-get16 c = omega (arith, c .before .before .before .before .before .before .pre .1 .0 .block)
-
-get16-requires : tie.Need-get16-requires
-get16-requires c κs = let s = c .before .before .before .before .before .before in omega (arith, c .before .if1 .taken, s .pre .0, s .pre .1 .0 .block)
+first-arc-requires : tie.Need-first-arc-requires
+first-arc-requires c κs = let s = c .before .before .before .before .before .before in omega (arith, c .before .if1 .taken, s .pre .0, s .pre .1 .0 .block)
 
 end-of-requires : tie.Need-end-of-requires
 end-of-requires c κs = let t = c .before .before .before in let s = t .before .before .before .before .before in (t .if1 .taken, (s .pre .1 .1 .few, s .pre .1 .0 .block))
@@ -33,7 +29,7 @@ visit-requires c κs =
     (omega (arith, e .end-of .ensures, end-few (n .next-live .result) (s .pre .1 .1)), s .pre .1 .0)
 
 returns : tie.Need-returns
-unfolding related startAt
+unfolding related
 returns c =
     let v = c .before .before in
     let e = v .before .before in
@@ -43,7 +39,7 @@ returns c =
     let o = n .before in
     let s = o .before .before .before in
     let h = t .if1 .taken in
-    (v .visit .ensures .0, ahead-covered (v .visit .result) (s .pre .1 .0) (s .pre .1 .1) (s .pre .0) h (subst (λ (u : List _). T (inSet u (n .next-live .result))) (o .load .ensures) (n .next-live .ensures .member (omega (arith, s .pre .0)))) (g .get16 .ensures .0) (e .end-of .ensures) (v .visit .ensures .0) (v .visit .ensures .1))
+    (v .visit .ensures .0, ahead-covered (v .visit .result) (s .pre .1 .0) (s .pre .1 .1) (s .pre .0) h (subst (λ (u : List _). T (inSet u (n .next-live .result))) (o .load .ensures) (n .next-live .ensures .member (omega (arith, s .pre .0)))) (g .first-arc .ensures) (e .end-of .ensures) (v .visit .ensures .0) (v .visit .ensures .1))
 
 returns-2 : tie.Need-returns-2
 returns-2 c = let a = c .before .before .before .before .before .args in (kept-same _ _ _, λ p j l t. absurd (subst T (none-met (a .w .now) (a .acc) p j) t))
@@ -54,8 +50,7 @@ ahead-spec =
     (tie.spec
     load-requires
     (λ c κs. search needs)
-    add-get16
-    get16-requires
+    first-arc-requires
     end-of-requires
     visit-requires
     (λ c. search needs)

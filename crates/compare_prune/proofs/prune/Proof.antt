@@ -5,7 +5,6 @@ use native.Mathlib.Omega.{arith}
 use lib.ListN.{length}
 use Rattle.word_fields.proofs.Laws.{but-same}
 use Rattle.word_layout.specs.Layout.{blockEnd}
-use Rattle.table_sets.specs.Stepping.{startAt}
 use Rattle.table_sets.proofs.Laws.{end-below}
 use Rattle.compare_prune.proofs.PruneAll.{Pruning, from-was, pruned-told, pruned-starts, pruning-kept, pruning-more, pruning-start, to-was}
 use Rattle.compare_prune.proofs.prune.Statement.{statement}
@@ -42,11 +41,8 @@ long c =
     let l = a .before .before .before in
     omega (arith, l .before .before .before .pre .1 .0, l .loop .inv .frame .long, a .ahead .ensures .0 .long)
 
-add-get16 : tie.Need-add-get16 Inv-loop μ-loop
-add-get16 c = omega (arith, long (c .before))
-
-get16-requires : tie.Need-get16-requires Inv-loop μ-loop
-get16-requires c κs =
+first-arc-requires : tie.Need-first-arc-requires Inv-loop μ-loop
+first-arc-requires c κs =
     let k = c .before in
     let i = k .before .before .before .before in
     omega (arith, long k, i .loop-test .taken, i .before .before .before .before .pre .1 .1 .few)
@@ -58,7 +54,6 @@ end-of-requires c κs =
     (i .loop-test .taken, (i .before .before .before .before .pre .1 .1 .few, long k))
 
 prune-one-requires : tie.Need-prune-one-requires Inv-loop μ-loop
-unfolding startAt
 prune-one-requires c κs =
     let e = c .before in
     let g = e .before .before in
@@ -69,21 +64,18 @@ prune-one-requires c κs =
     let p = l .before .before .before .pre in
     let h = i .loop-test .taken in
     let v = pruning-kept (p .0) (p .1 .1) (a .ahead .ensures .0) (l .loop .inv) in
-    let f = from-was h v (g .get16 .ensures .0) in
+    let f = from-was h v (g .first-arc .ensures) in
     let t = to-was h v (e .end-of .ensures) in
     (p .0, (long k, (omega (arith, f, v .behind h), (omega (arith, f, t, p .1 .1 .rises (l .loop .c) h), omega (arith, t, end-below (l .loop .c) (p .1 .1), p .1 .1 .less)))))
 
-add-put16 : tie.Need-add-put16 Inv-loop μ-loop
-add-put16 c = omega (arith, long (c .before .before .before .before .before .before .before .before .before))
-
-put16-requires : tie.Need-put16-requires Inv-loop μ-loop
-put16-requires c κs =
+start-arcs-requires : tie.Need-start-arcs-requires Inv-loop μ-loop
+start-arcs-requires c κs =
     let o = c .before .before .before in
     let k = o .before .before .before .before .before .before in
     let i = k .before .before .before .before in
     let l = i .before in
     let p = l .before .before .before .pre in
-    (omega (arith, long k, p .1 .1 .few, i .loop-test .taken, o .prune-one .ensures .0 .long), omega (arith, l .loop .inv .below, p .1 .1 .less))
+    (omega (arith, p .1 .1 .few, i .loop-test .taken), omega (arith, l .loop .inv .below, p .1 .1 .less), omega (arith, long k, o .prune-one .ensures .0 .long))
 
 add-c : tie.Need-add-c Inv-loop μ-loop
 add-c c = let i = c .before .before .before .before .before .before .before .before .before .before .before .before .before .before .before .before in omega (arith, i .loop-test .taken, i .before .before .before .before .pre .1 .1 .few)
@@ -92,7 +84,6 @@ loop-less : tie.Need-loop-less Inv-loop μ-loop
 loop-less c = omega (arith, c .before .before .before .before .before .before .before .before .before .before .before .before .before .before .before .before .loop-test .taken)
 
 loop-again : tie.Need-loop-again Inv-loop μ-loop
-unfolding startAt
 loop-again c =
     let q = c .before .before in
     let o = q .before .before .before .before in
@@ -103,8 +94,8 @@ loop-again c =
     let l = i .before in
     let p = l .before .before .before .pre in
     let n = o .prune-one .ensures in
-    pruning-more (p .0) (p .1 .1) (i .loop-test .taken) (pruning-kept (p .0) (p .1 .1) (a .ahead .ensures .0) (l .loop .inv)) (g .get16 .ensures .0) (e .end-of .ensures) (n .0) (n .1 .0 .0) (n .1 .0 .1) (n .1 .1 .0) (n .1 .1 .1 .0)
-    (λ x j m t. ⊎-elim (λ s. inl (a .ahead .ensures .1 x j m s)) (λ b. inr b) (n .1 .1 .1 .1 x j m t)) (q .put16 .ensures .0) (q .put16 .ensures .1)
+    pruning-more (p .0) (p .1 .1) (i .loop-test .taken) (pruning-kept (p .0) (p .1 .1) (a .ahead .ensures .0) (l .loop .inv)) (g .first-arc .ensures) (e .end-of .ensures) (n .0) (n .1 .0 .0) (n .1 .0 .1) (n .1 .1 .0) (n .1 .1 .1 .0)
+    (λ x j m t. ⊎-elim (λ s. inl (a .ahead .ensures .1 x j m s)) (λ b. inr b) (n .1 .1 .1 .1 x j m t)) (q .start-arcs .ensures .0) (q .start-arcs .ensures .1)
 
 same-length : tie.Need-same-length Inv-loop μ-loop
 same-length c = c .before .loop .inv .frame .long
@@ -126,12 +117,10 @@ prune-spec =
     returns
     loop-holds
     ahead-requires
-    add-get16
-    get16-requires
+    first-arc-requires
     end-of-requires
     prune-one-requires
-    add-put16
-    put16-requires
+    start-arcs-requires
     add-c
     loop-less
     loop-again

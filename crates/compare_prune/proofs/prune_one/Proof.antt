@@ -16,7 +16,7 @@ Inv-loop w₀ base acc from to kept met told₀ end₀ k₀ w told end k = Thinn
 abbrev μ-loop : tie.MeasureT-loop
 μ-loop w₀ base acc from to kept met told₀ end₀ k₀ w told end k = to - k
 
-room-at : (c : tie.After-get16-arg Inv-loop μ-loop) → Room (c .before .before .loop .w) (c .before .before .before .before .args .base) (c .before .before .before .before .args .acc)
+room-at : (c : tie.After-listed-arc-arg Inv-loop μ-loop) → Room (c .before .before .loop .w) (c .before .before .before .before .args .base) (c .before .before .before .before .args .acc)
 room-at c =
     let l = c .before .before in
     let p = l .before .before .pre in
@@ -25,14 +25,11 @@ room-at c =
 loop-holds : tie.Need-loop-holds Inv-loop μ-loop
 loop-holds c = let s = c .before in thinning-start _ _ _ _ _ _ _ (s .pre .1 .1 .0) (s .pre .1 .1 .1 .0)
 
-add-get16 : tie.Need-add-get16 Inv-loop μ-loop
-add-get16 c = omega (arith, room-at c)
-
-get16-requires : tie.Need-get16-requires Inv-loop μ-loop
-get16-requires c κs = let s = c .before .before .before .before in omega (arith, room-at c, s .pre .1 .1 .1 .1)
+listed-arc-requires : tie.Need-listed-arc-requires Inv-loop μ-loop
+listed-arc-requires c κs = let s = c .before .before .before .before in omega (arith, room-at c, s .pre .1 .1 .1 .1)
 
 adds-requires : tie.Need-adds-requires Inv-loop μ-loop
-adds-requires c κs = room-at (c .before .before)
+adds-requires c κs = (room-at (c .before .before), c .before .listed-arc .ensures .1 .1)
 
 into-requires : tie.Need-into-requires Inv-loop μ-loop
 into-requires c κs =
@@ -41,18 +38,15 @@ into-requires c κs =
     let g = a .before .before in
     let r = room-at (g .before) in
     let l = a .adds .ensures .0 (subst T (sym (t .if1 .taken)) tt) in
-    (l, (omega (arith, r .rows), omega (arith, r .block)))
+    (l, (omega (arith, r .rows), omega (arith, r .block, g .listed-arc .ensures .1 .1)))
 
-add-put16 : tie.Need-add-put16 Inv-loop μ-loop
-add-put16 c = omega (arith, room-at (c .before .before .before .before .before .before .before .before .before))
-
-put16-requires : tie.Need-put16-requires Inv-loop μ-loop
-put16-requires c κs =
+list-arc-requires : tie.Need-list-arc-requires Inv-loop μ-loop
+list-arc-requires c κs =
     let i = c .before .before .before in
     let g = i .before .before .before .before .before in
     let l = g .before .before .before in
     let s = l .before .before in
-    (omega (arith, room-at (g .before), i .into .ensures .0 .long, l .loop .inv .behind, g .before .before .loop-test .taken, s .pre .1 .1 .1 .1), g .get16 .ensures .1)
+    (omega (arith, l .loop .inv .behind, g .before .before .loop-test .taken, s .pre .1 .1 .1 .1), g .listed-arc .ensures .0 .1, g .listed-arc .ensures .1 .1, omega (arith, room-at (g .before), i .into .ensures .0 .long))
 
 add-end : tie.Need-add-end Inv-loop μ-loop
 add-end c = let l = c .before .before .before .before .before .before .before .before .before .before .before .before .before .before in omega (arith, l .loop .inv .behind, l .loop .inv .high, l .before .before .pre .1 .1 .1 .1)
@@ -71,8 +65,8 @@ loop-again c =
     let l = i .before in
     let p = l .before .before .pre in
     ⊎-elim
-    (λ t. rw (t .9, t .10, t .11) (thinning-more (p .0) (i .loop-test .taken) (p .1 .1 .1 .1) (l .loop .inv) (g .get16 .ensures .0) (t .2 .result) (a .adds .ensures .0 (subst T (sym (t .0 .taken)) tt)) (t .2 .ensures .0) (t .2 .ensures .1) (t .6 .ensures .0) (t .6 .ensures .1)))
-    (λ t. rw (t .1, t .2, t .3) (thinning-skip (p .0) (i .loop-test .taken) (p .1 .1 .1 .1) (l .loop .inv) (g .get16 .ensures .0) (a .adds .ensures .1 (λ x. subst T (t .0 .left) x))))
+    (λ t. rw (t .9, t .10, t .11) (thinning-more (p .0) (i .loop-test .taken) (p .1 .1 .1 .1) (l .loop .inv) (g .listed-arc .ensures .0 .0) (g .listed-arc .ensures .1 .0) (t .2 .result) (a .adds .ensures .0 (subst T (sym (t .0 .taken)) tt)) (t .2 .ensures .0) (t .2 .ensures .1) (t .6 .ensures .0) (t .6 .ensures .1)))
+    (λ t. rw (t .1, t .2, t .3) (thinning-skip (p .0) (i .loop-test .taken) (p .1 .1 .1 .1) (l .loop .inv) (g .listed-arc .ensures .0 .0) (g .listed-arc .ensures .1 .0) (a .adds .ensures .1 (λ x. subst T (t .0 .left) x))))
     (c .if1 .came)
 
 same-length : tie.Need-same-length Inv-loop μ-loop
@@ -88,12 +82,10 @@ prune-one-spec =
     Inv-loop
     μ-loop
     loop-holds
-    add-get16
-    get16-requires
+    listed-arc-requires
     adds-requires
     into-requires
-    add-put16
-    put16-requires
+    list-arc-requires
     add-end
     add-k
     loop-less

@@ -2,8 +2,8 @@
 use borrow.Author.Needs.{needs}
 use native.Mathlib.Omega.{arith}
 use Rattle.word_fields.proofs.Laws.{kept-then, kept-wider}
-use Rattle.compare_search.proofs.Frames.{holds-kept, room-first, room-second, table-kept}
-use Rattle.compare_search.proofs.Expanding.{both-steps, letter-sets, second-starts}
+use Rattle.compare_search.proofs.TableFrames.{holds-kept, room-first, room-second, table-kept}
+use Rattle.compare_search.proofs.ExpandPair.{both-steps, letter-sets, second-starts}
 use Rattle.compare_search.proofs.expand.Statement.{statement}
 use Rattle.compare_search.proofs.expand.Tie as tie
 

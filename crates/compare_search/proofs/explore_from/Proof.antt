@@ -1,11 +1,11 @@
--- `compare_search::explore_from` meets its contract. The loop's invariant: the pairs below i are expanded (Walked of proofs/Walking.antt).
+-- `compare_search::explore_from` meets its contract. The loop's invariant: the pairs below i are expanded (Walked of proofs/ExploreFrom.antt).
 use borrow.Author.Needs.{needs}
 use native.Mathlib.Omega.{arith}
 use mathlib.Core.Path.{_∙_}
 use Prim.Native.Nat.{_-_}
-use Rattle.compare_search.proofs.Frames.{ready-kept}
+use Rattle.compare_search.proofs.TableFrames.{ready-kept}
 use Rattle.word_fields.proofs.Laws.{kept-then}
-use Rattle.compare_search.proofs.Walking.{Walked, walk-end, walked-more, walked-over, walked-start}
+use Rattle.compare_search.proofs.ExploreFrom.{Walked, walk-end, walked-more, walked-over, walked-start}
 use Rattle.compare_search.proofs.explore_from.Statement.{statement}
 use Rattle.compare_search.proofs.explore_from.Tie as tie
 

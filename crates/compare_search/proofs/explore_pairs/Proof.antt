@@ -5,8 +5,8 @@ use Rattle.word_fields.specs.Frame.{Kept}
 use Rattle.word_fields.proofs.Laws.{chain-start, kept-then, kept-wider}
 use Rattle.word_layout.specs.Layout.{firstBlock}
 use Rattle.compare_pairs.specs.Entries.{begin}
-use Rattle.compare_search.proofs.Frames.{both-kept, ready-kept}
-use Rattle.compare_search.proofs.Walking.{holds-start}
+use Rattle.compare_search.proofs.TableFrames.{both-kept, ready-kept}
+use Rattle.compare_search.proofs.ExploreFrom.{holds-start}
 use Rattle.compare_search.proofs.explore_pairs.Statement.{statement}
 use Rattle.compare_search.proofs.explore_pairs.Tie as tie
 

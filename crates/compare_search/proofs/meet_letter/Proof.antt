@@ -5,7 +5,7 @@ use mathlib.Core.Logic.{inl}
 use mathlib.Core.Path.{subst, sym}
 use lib.Dec.{T}
 use Rattle.automata.proofs.Laws.{and-iff}
-use Rattle.compare_search.proofs.Letters.{skipped}
+use Rattle.compare_search.proofs.MeetLetters.{skipped}
 use Rattle.compare_search.proofs.meet_letter.Statement.{statement}
 use Rattle.compare_search.proofs.meet_letter.Tie as tie
 

@@ -1,9 +1,9 @@
--- `compare_search::meet_letters` meets its contract. The loop's invariant: the letters below l are done (Turns of proofs/Letters.antt).
+-- `compare_search::meet_letters` meets its contract. The loop's invariant: the letters below l are done (Turns of proofs/MeetLetters.antt).
 use borrow.Author.Needs.{needs}
 use native.Mathlib.Omega.{arith}
 use mathlib.Core.Path.{_∙_}
 use Prim.Native.Nat.{_-_}
-use Rattle.compare_search.proofs.Letters.{Turns, going-end, turns-kept, turns-more, turns-over, turns-start}
+use Rattle.compare_search.proofs.MeetLetters.{Turns, going-end, turns-kept, turns-more, turns-over, turns-start}
 use Rattle.compare_search.proofs.meet_letters.Statement.{statement}
 use Rattle.compare_search.proofs.meet_letters.Tie as tie
 

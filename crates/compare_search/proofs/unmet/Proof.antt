@@ -4,7 +4,7 @@ use mathlib.Core.Path.{_∙_, ap, sym}
 use mathlib.Core.Bool.{not}
 use lib.Bits.{bitOr}
 use Rattle.word_sets.proofs.Laws.{bit-or, has-bit}
-use Rattle.compare_search.proofs.Letters.{not-not}
+use Rattle.compare_search.proofs.MeetLetters.{not-not}
 use Rattle.compare_search.proofs.unmet.Statement.{statement}
 use Rattle.compare_search.proofs.unmet.Tie as tie
 

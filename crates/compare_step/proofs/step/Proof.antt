@@ -1,8 +1,8 @@
 -- `compare_step::step` meets its contract. The loop's invariant: the live configurations below c have been visited (Stepping of
--- proofs/Onward.antt). The measure is how far c is from 256.
+-- crate table_sets). The measure is how far c is from 256.
 use Prim.Native.Nat.{_-_}
 use native.Mathlib.Omega.{arith}
-use Rattle.table_sets.specs.Stepping.{Among, FromList, Room, startAt}
+use Rattle.table_sets.specs.Stepping.{Among, FromList, Room}
 use Rattle.table_sets.proofs.Laws.{Stepping, block-kept, end-few, end-kept, list-kept, room-kept, stepped, stepping-more, stepping-start}
 use Rattle.compare_step.proofs.step.Statement.{statement}
 use Rattle.compare_step.proofs.step.Tie as tie
@@ -13,17 +13,14 @@ Inv-loop w₀ base acc count plain set met₀ c₀ w met c = Stepping (FromList 
 abbrev μ-loop : tie.MeasureT-loop
 μ-loop w₀ base acc count plain set met₀ c₀ w met c = 256 - c
 
-room-at : (c : tie.After-get16-arg Inv-loop μ-loop) → Room (c .before .before .loop .w) (c .before .before .before .before .before .args .base) (c .before .before .before .before .before .args .acc)
+room-at : (c : tie.After-first-arc-arg Inv-loop μ-loop) → Room (c .before .before .loop .w) (c .before .before .before .before .before .args .base) (c .before .before .before .before .before .args .acc)
 room-at c = let l = c .before .before in let r = l .before .before .before .pre .0 in room-kept (block-kept (l .loop .inv .kept) (r .apart)) r
 
 loop-holds : tie.Need-loop-holds Inv-loop μ-loop
 loop-holds c = stepping-start _ _ _ (c .next-live .ensures)
 
-add-get16 : tie.Need-add-get16 Inv-loop μ-loop
-add-get16 c = omega (arith, room-at c)
-
-get16-requires : tie.Need-get16-requires Inv-loop μ-loop
-get16-requires c κs = let s = c .before .before .before .before .before in omega (arith, room-at c, s .pre .1 .few)
+first-arc-requires : tie.Need-first-arc-requires Inv-loop μ-loop
+first-arc-requires c κs = let s = c .before .before .before .before .before in omega (arith, room-at c, s .pre .1 .few)
 
 end-of-requires : tie.Need-end-of-requires Inv-loop μ-loop
 end-of-requires c κs = let s = c .before .before .before .before .before .before .before in omega (arith, room-at (c .before .before), s .pre .1 .few)
@@ -46,7 +43,6 @@ loop-less : tie.Need-loop-less Inv-loop μ-loop
 loop-less c = let i = c .before .before .before .before .before .before .before .before .before in let s = i .before .before .before .before in omega (arith, i .loop-test .taken, s .pre .1 .few, c .next-live2 .ensures .low)
 
 loop-again : tie.Need-loop-again Inv-loop μ-loop
-unfolding startAt
 loop-again c =
     let v = c .before .before .before in
     let e = v .before .before in
@@ -56,8 +52,8 @@ loop-again c =
     let b = l .before .before .before in
     let p = b .pre in
     stepping-more (FromList (b .args .w .now) (b .args .base) (b .args .count) (b .args .plain))
-    {Own = Among (l .loop .w) (b .args .base) (g .get16 .result) (e .end-of .result)} (v .visit .result) (omega (arith, i .loop-test .taken, p .1 .few)) (l .loop .inv) (v .visit .ensures .0) (v .visit .ensures .1)
-    (list-kept (block-kept (l .loop .inv .kept) (p .0 .apart)) (l .loop .c) (p .1) (i .loop-test .taken) (g .get16 .ensures .0) (e .end-of .ensures))
+    {Own = Among (l .loop .w) (b .args .base) (g .first-arc .result) (e .end-of .result)} (v .visit .result) (omega (arith, i .loop-test .taken, p .1 .few)) (l .loop .inv) (v .visit .ensures .0) (v .visit .ensures .1)
+    (list-kept (block-kept (l .loop .inv .kept) (p .0 .apart)) (l .loop .c) (p .1) (i .loop-test .taken) (g .first-arc .ensures) (e .end-of .ensures))
     (c .next-live2 .ensures)
 
 same-length : tie.Need-same-length Inv-loop μ-loop
@@ -74,8 +70,7 @@ step-spec =
     μ-loop
     (λ c κs. omega arith)
     loop-holds
-    add-get16
-    get16-requires
+    first-arc-requires
     end-of-requires
     visit-requires
     add-next-live

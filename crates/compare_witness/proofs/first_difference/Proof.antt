@@ -1,5 +1,5 @@
 -- `compare_witness::first_difference` meets its contract. The loop's invariant: none of the pairs below i differs.
-use Rattle.compare_witness.proofs.Differences.{NoneBefore, none-more, first-found, first-nowhere}
+use Rattle.compare_witness.proofs.FirstDifference.{NoneBefore, none-more, first-found, first-nowhere}
 use Prim.Native.Nat.{_-_, _≤_}
 use native.Mathlib.Omega.{arith}
 use Rattle.compare_witness.proofs.first_difference.Statement.{statement}

@@ -1,6 +1,6 @@
 -- `compare_witness::judge_pair` meets its contract: a case for each return.
 use mathlib.Core.Bool.{Bool, true, false}
-use Rattle.compare_witness.proofs.Differences.{judges, Judges}
+use Rattle.compare_witness.proofs.FirstDifference.{judges, Judges}
 use Rattle.compare_witness.specs.Spelled.{alone}
 use mathlib.Core.Path.{_≡_}
 use borrow.Author.Needs.{needs}

@@ -1,5 +1,5 @@
 -- `compare_witness::put_word` meets its contract. The loop's invariant is `Putting`: the word of pair k and then what is put make up the whole.
-use Rattle.compare_witness.proofs.Putting.{Putting, putting-start, putting-more, putting-end}
+use Rattle.compare_witness.proofs.PutWord.{Putting, putting-start, putting-more, putting-end}
 use lib.ListN.{getD, length, set}
 use Prim.Native.Nat.{_-_, _/_, _%_, _≤_, _<_}
 use native.Mathlib.Omega.{arith}

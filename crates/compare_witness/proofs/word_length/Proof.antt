@@ -1,5 +1,5 @@
 -- `compare_witness::word_length` meets its contract. The loop's invariant: the word of pair k and the letters passed make up the whole length.
-use Rattle.compare_witness.proofs.Climbing.{spelled-zero, spelled-length}
+use Rattle.compare_witness.proofs.WordOfPair.{spelled-zero, spelled-length}
 use Rattle.word_fields.specs.Fields.{field}
 use Rattle.word_layout.specs.Layout.{parents}
 use Rattle.compare_witness.specs.Spelled.{spelled}

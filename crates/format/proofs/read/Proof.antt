@@ -1,7 +1,7 @@
 -- The file: a header that is refused is the answer, else what follows it is.
 use mathlib.Core.Path.{_≡_, sym, _∙_}
 use Rattle.file_fields.specs.Parts.{countsOf, headerTests, firstFault}
-use Rattle.format.proofs.Seen.{header-ranges, after-header, stops-at-header}
+use Rattle.format.proofs.ValidHeader.{header-ranges, after-header, stops-at-header}
 use borrow.Author.Needs.{needs}
 use Rattle.format.proofs.read.Statement.{statement}
 use Rattle.format.proofs.read.Tie as tie

@@ -3,7 +3,8 @@ use mathlib.Core.Path.{_∙_, refl, sym}
 use borrow.Author.Needs.{needs}
 use Rattle.automata.specs.Joins.{intersection}
 use Rattle.join.proofs.intersect.Statement.{statement}
-use Rattle.join_parts.proofs.Laws.{both-joinable, joined-both, joined-fault}
+use Rattle.file_pair.proofs.Laws.{both-joinable}
+use Rattle.join_parts.proofs.Laws.{joined-both, joined-fault}
 use Rattle.join.proofs.intersect.Tie as tie
 
 product-requires : tie.Need-product-requires

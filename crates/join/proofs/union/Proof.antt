@@ -3,7 +3,8 @@ use mathlib.Core.Path.{_∙_, refl, sym}
 use borrow.Author.Needs.{needs}
 use Rattle.automata.specs.Joins.{union}
 use Rattle.join.proofs.union.Statement.{statement}
-use Rattle.join_parts.proofs.Laws.{both-joinable, joined-both, joined-fault}
+use Rattle.file_pair.proofs.Laws.{both-joinable}
+use Rattle.join_parts.proofs.Laws.{joined-both, joined-fault}
 use Rattle.join.proofs.union.Tie as tie
 
 unite-requires : tie.Need-unite-requires

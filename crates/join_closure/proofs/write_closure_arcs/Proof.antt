@@ -41,7 +41,7 @@ write-final-arcs-requires c κs =
       s .pre .0,
       s .pre .1,
       omega arith,
-      r .registers,
+      omega (arith, r .registers),
       omega (arith, simp length-append at (rw (parts s) at (s .pre .2)), appended-ends (entry .write-entry .ensures), appended-ends (moved .write-moved-arcs .ensures)),
     )
 

@@ -13,7 +13,7 @@ use Rattle.format.specs.Encoding.{sizes}
 use Rattle.file_laws.proofs.Laws.{bytes-length, valid-fits, valid-ranges, valid-sizes}
 use Rattle.join_parts.specs.Joining.{manyCounts, writtenOf}
 use Rattle.join_parts.proofs.Laws.{decided-written, valid-lengths, written-bytes}
-use Rattle.join_product_count.specs.Pairing.{withArcs}
+use Rattle.join_product_count.specs.ProductArcs.{withArcs}
 use Rattle.join_intersection.proofs.IntersectionBytes.{intersection-counts}
 use Rattle.join_intersection.proofs.IntersectionFits.{intersection-fits}
 use Rattle.join_intersection.proofs.ManyOps.{large-refused, many-refused, none-many}

@@ -3,7 +3,7 @@ use mathlib.Core.Path.{ap}
 use native.Mathlib.Omega.{arith}
 use native.Mathlib.Nat.{mul-le-mul-left}
 use borrow.Author.Needs.{needs}
-use Rattle.join_product_count.specs.Pairing.{withArcs}
+use Rattle.join_product_count.specs.ProductArcs.{withArcs}
 use Rattle.join_intersection.proofs.IntersectionBytes.{intersection-counts}
 use Rattle.join_intersection.proofs.product_counts.Statement.{statement}
 use Rattle.join_intersection.proofs.product_counts.Tie as tie

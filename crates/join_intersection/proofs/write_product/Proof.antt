@@ -12,7 +12,7 @@ use Rattle.format.specs.Encoding.{arcsBytes, flagByte, bytesOf, headerBytes}
 use Rattle.format.specs.Limits.{Ranges}
 use Rattle.file_writing.proofs.Laws.{appended-ends, front-ends, header-length, written-then}
 use Rattle.join_parts.proofs.Laws.{valid-lengths}
-use Rattle.join_intersection.proofs.FlagLaws.{flags-length}
+use Rattle.join_intersection.proofs.BothFlags.{flags-length}
 use Rattle.join_intersection.proofs.IntersectionBytes.{intersection-parts, intersection-counts}
 use Rattle.join_intersection.proofs.write_product.Statement.{statement}
 use Rattle.join_intersection.proofs.write_product.Tie as tie

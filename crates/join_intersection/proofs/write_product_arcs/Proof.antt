@@ -12,8 +12,8 @@ use Rattle.format.specs.Encoding.{arcsBytes}
 use Rattle.file_laws.proofs.Laws.{valid-ranges, valid-sizes}
 use Rattle.file_writing.proofs.Laws.{appended-ends, written-then}
 use Rattle.join_parts.proofs.Laws.{valid-lengths}
-use Rattle.join_product_count.specs.Pairing.{jointWith, emptyWith}
-use Rattle.join_product_arcs.specs.Writing.{besideArc}
+use Rattle.join_product_count.specs.ProductArcs.{jointWith, emptyWith}
+use Rattle.join_product_arcs.specs.JointArcs.{besideArc}
 use Rattle.join_intersection.proofs.IntersectionBytes.{arc-parts, ofFirst, ofSecond}
 use Rattle.join_product_arcs.proofs.Laws.{pair-below}
 use Rattle.join_intersection.proofs.write_product_arcs.Statement.{statement}

@@ -9,9 +9,9 @@ use Rattle.automata.specs.Joins.{arcLeft, arcRight, movedOp}
 use Rattle.format.specs.Decoding.{automatonOf}
 use Rattle.file_laws.proofs.Laws.{valid-ranges}
 use Rattle.join_parts.proofs.Laws.{valid-lengths}
-use Rattle.join_product_count.specs.Pairing.{jointWith, emptyWith}
+use Rattle.join_product_count.specs.ProductArcs.{jointWith, emptyWith}
 use Rattle.join_product_count.proofs.Uncounted.{tallied-append}
-use Rattle.join_product_count.proofs.Groups.{arc-groups}
+use Rattle.join_product_count.proofs.ArcGroups.{arc-groups}
 use Rattle.join_product_count.proofs.count_arcs.Statement.{statement}
 use Rattle.join_product_count.proofs.count_arcs.Tie as tie
 

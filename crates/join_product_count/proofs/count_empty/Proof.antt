@@ -9,51 +9,49 @@ use native.Mathlib.Nat.{mul-le-mul-left}
 use lib.ListN.{length, drop, getD}
 use Rattle.automata.specs.Automaton.{Arc}
 use Rattle.automata.specs.Lists.{countFrom}
+use Rattle.file_fields.specs.Parts.{firstArc}
 use Rattle.format.specs.Decoding.{arcOf, arcsOf}
 use Rattle.file_laws.proofs.Laws.{valid-arcs, valid-ranges}
 use Rattle.join_parts.proofs.Laws.{ArcHere, Walk, walk-here, walk-on, walk-start}
-use Rattle.join_product_count.specs.Pairing.{emptyWith}
+use Rattle.join_product_count.specs.ProductArcs.{emptyWith}
 use Rattle.join_product_count.proofs.Uncounted.{Uncounted, uncounted-all, uncounted-less, uncounted-none, all-tallied}
-use Rattle.join_product_count.proofs.ArcsOf.{ops-here, empty-next, empty-skip, empty-none}
+use Rattle.join_product_count.proofs.ProductArcLaws.{ops-here, empty-next, empty-skip, empty-none}
 use Rattle.join_product_count.proofs.count_empty.Statement.{statement}
 use Rattle.join_product_count.proofs.count_empty.Tie as tie
 
 abbrev Inv-loop : tie.InvT-loop
-Inv-loop c file n arcs₀ size₀ from₀ i₀ arcs size from i = (i ≤ c .arcs) × Walk c file (c .arcs - i) from × (arcs ≤ 256 * i) × (size ≤ 131840 * i) × ((f : Arc → ℕ → Arc) → ((x : Arc) (j : ℕ) → length (f x j .ops) ≡ length (x .ops)) → Uncounted (record { arcs = arcs; size = size; many = false }) (emptyWith f n (arcsOf (c .arcs - i) (drop from file))) (emptyWith f n (arcsOf (c .arcs) (drop from₀ file))))
+Inv-loop c file n arcs₀ size₀ from₀ i₀ arcs size from i = (i ≤ c .arcs) × Walk c file (c .arcs - i) from × (arcs ≤ 256 * i) × (size ≤ 131840 * i) × ((f : Arc → ℕ → Arc) → ((x : Arc) (j : ℕ) → length (f x j .ops) ≡ length (x .ops)) → Uncounted (record { arcs = arcs; size = size; many = false }) (emptyWith f n (arcsOf (c .arcs - i) (drop from file))) (emptyWith f n (arcsOf (c .arcs) (drop (firstArc c) file))))
 
 abbrev μ-loop : tie.MeasureT-loop
 μ-loop c file n arcs₀ size₀ from₀ i₀ arcs size from i = c .arcs - i
 
 -- the arc of this turn
-here : (c : tie.Then1 Inv-loop μ-loop) → let l = c .before .before in let a = l .before .before .before .before .args in ArcHere (a .c) (a .file .now) (l .loop .from)
+here : (c : tie.Then1 Inv-loop μ-loop) → let l = c .before .before in let a = l .before .before .before .args in ArcHere (a .c) (a .file .now) (l .loop .from)
 here c =
     let l = c .before .before in
-    let a = l .before .before .before .before .args in
+    let a = l .before .before .before .args in
     walk-here (a .c) (a .file .now) (a .c .arcs) (l .loop .i) (l .loop .from) (c .if1 .taken) (l .loop .inv .1)
 
 -- the numbers of this turn are small
-bounds : (c : tie.After-arc-size Inv-loop μ-loop) → let l = c .before .before .before in let a = l .before .before .before .before .args in
+bounds : (c : tie.After-arc-size Inv-loop μ-loop) → let l = c .before .before .before in let a = l .before .before .before .args in
     (a .n ≤ 256) × (a .n * c .arc-size .result ≤ 131840) × (l .loop .arcs ≤ 256 * l .loop .i) × (l .loop .size ≤ 131840 * l .loop .i) × (l .loop .i < 2048)
 bounds c =
     let l = c .before .before .before in
-    let s = l .before .before .before .before in
+    let s = l .before .before .before in
     let h : c .arc-size .result ≤ 515 = omega (arith, c .arc-size .ensures .1) in
     (s .pre .1, omega (arith, mul-le-mul-left (s .args .n) h, s .pre .1), l .loop .inv .2, l .loop .inv .3, omega (arith, c .before .if1 .taken, valid-ranges _ _ (s .pre .0) .arcs))
 
-add-from : tie.Need-add-from Inv-loop μ-loop
-add-from c = omega (arith, valid-ranges _ _ (c .before .before .pre .0) .letters)
-
-add-from-2 : tie.Need-add-from-2 Inv-loop μ-loop
-add-from-2 c =
-    let r = valid-ranges _ _ (c .before .before .before .pre .0) in
-    omega (arith, r .letters, r .states)
+first-arc-requires : tie.Need-first-arc-requires Inv-loop μ-loop
+first-arc-requires c κs =
+    let r = valid-ranges _ _ (c .before .pre .0) in
+    (r .letters, omega (arith, r .states))
 
 loop-holds : tie.Need-loop-holds Inv-loop μ-loop
 loop-holds c =
-    let s = c .before .before .before in
+    let s = c .before .before in
     let m = s .args .c .arcs in
     let e : m - 0 ≡ m = omega arith in
-    (omega arith, rw e (walk-start _ _ (s .pre .0)), omega arith, omega arith, λ f k. rw e (uncounted-all _))
+    (omega arith, rw (e, c .first-arc .ensures) (walk-start _ _ (s .pre .0)), omega arith, omega arith, λ f k. rw (e, c .first-arc .ensures) (uncounted-all _))
 
 arc-size-requires : tie.Need-arc-size-requires Inv-loop μ-loop
 arc-size-requires c κs = omega (arith, here c .whole)
@@ -73,8 +71,8 @@ mul-size c = omega (arith, bounds (c .before .before))
 add-size : tie.Need-add-size Inv-loop μ-loop
 add-size c = omega (arith, bounds (c .before .before))
 
-add-from-3 : tie.Need-add-from-3 Inv-loop μ-loop
-add-from-3 c = omega (arith, here (c .before .before .before) .whole, c .before .before .arc-size .ensures .0)
+add-from : tie.Need-add-from Inv-loop μ-loop
+add-from c = omega (arith, here (c .before .before .before) .whole, c .before .before .arc-size .ensures .0)
 
 loop-again : tie.Need-loop-again Inv-loop μ-loop
 loop-again c =
@@ -82,7 +80,7 @@ loop-again c =
     let size = test .before in
     let t = size .before in
     let l = t .before .before in
-    let a = l .before .before .before .before .args in
+    let a = l .before .before .before .args in
     let file = a .file .now in
     let arc = drop (l .loop .from) file in
     let m = a .c .arcs in
@@ -111,7 +109,7 @@ loop-again c =
 returns : tie.Need-returns Inv-loop μ-loop
 returns c =
     let l = c .before .before in
-    let s = l .before .before .before .before in
+    let s = l .before .before .before in
     let a = s .args in
     let r = valid-ranges _ _ (s .pre .0) in (
       λ f k. rw (valid-arcs _ _ (s .pre .0)) (uncounted-none (rw (empty-none f (a .n) (a .c) (a .file .now) (a .c .arcs) (l .loop .i) (l .loop .from) (c .if1 .left)) at (l .loop .inv .4 f k))),
@@ -125,8 +123,7 @@ count-empty-spec =
     (tie.spec
     Inv-loop
     μ-loop
-    add-from
-    add-from-2
+    first-arc-requires
     loop-holds
     arc-size-requires
     add-byte
@@ -134,7 +131,7 @@ count-empty-spec =
     add-arcs
     mul-size
     add-size
-    add-from-3
+    add-from
     (λ c. omega arith)
     (λ c. omega arith)
     loop-again

@@ -6,26 +6,27 @@ use Prim.Native.Nat.{ℕ, _*_, _+_, _-_, _<_, _≤_}
 use native.Mathlib.Omega.{arith}
 use lib.ListN.{drop, length}
 use Rattle.automata.specs.Joins.{arcBoth}
+use Rattle.file_fields.specs.Parts.{firstArc}
 use Rattle.format.specs.Decoding.{arcOf, arcsOf, automatonOf, letterOf}
 use Rattle.file_laws.proofs.Laws.{valid-arcs, valid-ranges}
 use Rattle.join_parts.proofs.Laws.{ArcHere, Walk, walk-here, walk-on, walk-start}
-use Rattle.join_product_count.specs.Pairing.{jointWith}
+use Rattle.join_product_count.specs.ProductArcs.{jointWith}
 use Rattle.join_product_count.proofs.Uncounted.{Uncounted, uncounted-all, uncounted-less, uncounted-none, none-tallied, one-tallied}
-use Rattle.join_product_count.proofs.ArcsOf.{joint-next, joint-none, joint-nothing, joint-ops, joint-skip, letter-at, ops-at}
+use Rattle.join_product_count.proofs.ProductArcLaws.{joint-next, joint-none, joint-nothing, joint-ops, joint-skip, letter-at, ops-at}
 use Rattle.join_product_count.proofs.count_joint.Statement.{statement}
 use Rattle.join_product_count.proofs.count_joint.Tie as tie
 
 abbrev Inv-loop : tie.InvT-loop
-Inv-loop first from b second letter p arcs₀ size₀ many₀ at₀ i₀ arcs size many at i = (i ≤ b .arcs) × (letter ≢ 255) × Walk b second (b .arcs - i) at × (arcs ≤ i) × (size ≤ 1024 * i) × ((n k : ℕ) → Uncounted (record { arcs = arcs; size = size; many = many }) (jointWith n k (arcsOf (b .arcs - i) (drop at second)) (arcOf (drop from first))) (jointWith n k (arcsOf (b .arcs) (drop at₀ second)) (arcOf (drop from first))))
+Inv-loop first from b second letter p arcs₀ size₀ many₀ at₀ i₀ arcs size many at i = (i ≤ b .arcs) × (letter ≢ 255) × Walk b second (b .arcs - i) at × (arcs ≤ i) × (size ≤ 1024 * i) × ((n k : ℕ) → Uncounted (record { arcs = arcs; size = size; many = many }) (jointWith n k (arcsOf (b .arcs - i) (drop at second)) (arcOf (drop from first))) (jointWith n k (arcsOf (b .arcs) (drop (firstArc b) second)) (arcOf (drop from first))))
 
 abbrev μ-loop : tie.MeasureT-loop
 μ-loop first from b second letter p arcs₀ size₀ many₀ at₀ i₀ arcs size many at i = b .arcs - i
 
 -- the arc of this turn
-here : (c : tie.Then2 Inv-loop μ-loop) → let l = c .before .before in let a = l .before .before .before .before .before .before .before .before .args in ArcHere (a .b) (a .second .now) (l .loop .at)
+here : (c : tie.Then2 Inv-loop μ-loop) → let l = c .before .before in let a = l .before .before .before .before .before .before .before .args in ArcHere (a .b) (a .second .now) (l .loop .at)
 here c =
     let l = c .before .before in
-    let a = l .before .before .before .before .before .before .before .before .args in
+    let a = l .before .before .before .before .before .before .before .args in
     walk-here (a .b) (a .second .now) (a .b .arcs) (l .loop .i) (l .loop .at) (c .if2 .taken) (l .loop .inv .2)
 
 add-byte : tie.Need-add-byte Inv-loop μ-loop
@@ -47,20 +48,17 @@ returns c =
     let x = arcOf (drop (a .from) (a .first .now)) in
     (λ n k. rw (joint-nothing n k (automatonOf (a .second .now) .arcs) x _ (letter-at (a .first .now) (a .from)) (sym (letter .ensures .0) ∙ c .if1 .taken)) none-tallied, omega arith, omega arith)
 
-add-at : tie.Need-add-at Inv-loop μ-loop
-add-at c = omega (arith, valid-ranges _ _ (c .before .before .before .before .before .before .pre .1) .letters)
-
-add-at-2 : tie.Need-add-at-2 Inv-loop μ-loop
-add-at-2 c =
-    let r = valid-ranges _ _ (c .before .before .before .before .before .before .before .pre .1) in
-    omega (arith, r .letters, r .states)
+first-arc-requires : tie.Need-first-arc-requires Inv-loop μ-loop
+first-arc-requires c κs =
+    let r = valid-ranges _ _ (c .before .before .before .before .before .pre .1) in
+    (r .letters, omega (arith, r .states))
 
 loop-holds : tie.Need-loop-holds Inv-loop μ-loop
 loop-holds c =
-    let s = c .before .before .before .before .before .before .before in
+    let s = c .before .before .before .before .before .before in
     let m = s .args .b .arcs in
     let e : m - 0 ≡ m = omega arith in
-    (omega arith, c .before .before .if1 .left, rw e (walk-start _ _ (s .pre .1)), omega arith, omega arith, λ n k. rw e (uncounted-all _))
+    (omega arith, c .before .if1 .left, rw (e, c .first-arc .ensures) (walk-start _ _ (s .pre .1)), omega arith, omega arith, λ n k. rw (e, c .first-arc .ensures) (uncounted-all _))
 
 add-byte-3 : tie.Need-add-byte-3 Inv-loop μ-loop
 add-byte-3 c = omega (arith, here c .whole)
@@ -69,7 +67,7 @@ byte-requires-3 : tie.Need-byte-requires-3 Inv-loop μ-loop
 byte-requires-3 c κs = omega (arith, here c .whole)
 
 add-ops : tie.Need-add-ops Inv-loop μ-loop
-add-ops c = omega (arith, c .byte3 .ensures .1, c .before .before .before .before .before .before .before .byte2 .ensures .1)
+add-ops c = omega (arith, c .byte3 .ensures .1, c .before .before .before .before .before .before .byte2 .ensures .1)
 
 add-byte-4 : tie.Need-add-byte-4 Inv-loop μ-loop
 add-byte-4 c = omega (arith, here (c .before) .whole)
@@ -79,12 +77,12 @@ byte-requires-4 c κs = omega (arith, here (c .before) .whole)
 
 -- the numbers of this turn are small
 bounds : (c : tie.Then3 Inv-loop μ-loop) → let ops = c .before .before in let l = ops .before .before .before in
-    (ops .byte3 .result < 256) × (ops .before .before .before .before .before .before .before .byte2 .result < 256) × (l .loop .arcs ≤ l .loop .i) × (l .loop .size ≤ 1024 * l .loop .i) × (l .loop .i < 2048)
+    (ops .byte3 .result < 256) × (ops .before .before .before .before .before .before .byte2 .result < 256) × (l .loop .arcs ≤ l .loop .i) × (l .loop .size ≤ 1024 * l .loop .i) × (l .loop .i < 2048)
 bounds c =
     let ops = c .before .before in
     let l = ops .before .before .before in
-    let s = l .before .before .before .before .before .before .before .before in
-    (ops .byte3 .ensures .1, ops .before .before .before .before .before .before .before .byte2 .ensures .1, l .loop .inv .3, l .loop .inv .4, omega (arith, ops .before .if2 .taken, valid-ranges _ _ (s .pre .1) .arcs))
+    let s = l .before .before .before .before .before .before .before in
+    (ops .byte3 .ensures .1, ops .before .before .before .before .before .before .byte2 .ensures .1, l .loop .inv .3, l .loop .inv .4, omega (arith, ops .before .if2 .taken, valid-ranges _ _ (s .pre .1) .arcs))
 
 add-arcs : tie.Need-add-arcs Inv-loop μ-loop
 add-arcs c = omega (arith, bounds c)
@@ -101,8 +99,8 @@ add-size-2 c = omega (arith, bounds c)
 arc-size-requires : tie.Need-arc-size-requires Inv-loop μ-loop
 arc-size-requires c κs = omega (arith, here (c .before .before .before) .whole)
 
-add-at-3 : tie.Need-add-at-3 Inv-loop μ-loop
-add-at-3 c = omega (arith, here (c .before .before .before .before) .whole, c .arc-size .ensures .0)
+add-at : tie.Need-add-at Inv-loop μ-loop
+add-at c = omega (arith, here (c .before .before .before .before) .whole, c .arc-size .ensures .0)
 
 loop-again : tie.Need-loop-again Inv-loop μ-loop
 loop-again c =
@@ -110,9 +108,9 @@ loop-again c =
     let ops = test .before in
     let t = ops .before in
     let l = t .before .before in
-    let p = l .before .before .before .before .byte2 in
-    let letter = l .before .before .before .before .before .byte in
-    let s = l .before .before .before .before .before .before .before .before in
+    let p = l .before .before .before .byte2 in
+    let letter = l .before .before .before .before .byte in
+    let s = l .before .before .before .before .before .before .before in
     let a = s .args in
     let first = a .first .now in
     let second = a .second .now in
@@ -146,7 +144,7 @@ loop-again c =
 returns-2 : tie.Need-returns-2 Inv-loop μ-loop
 returns-2 c =
     let l = c .before .before in
-    let s = l .before .before .before .before .before .before .before .before in
+    let s = l .before .before .before .before .before .before .before in
     let a = s .args in
     let x = arcOf (drop (a .from) (a .first .now)) in (
       λ n k. rw (valid-arcs _ _ (s .pre .1)) (uncounted-none (rw (joint-none n k x (a .b) (a .second .now) (a .b .arcs) (l .loop .i) (l .loop .at) (c .if2 .left)) at (l .loop .inv .5 n k))),
@@ -165,8 +163,7 @@ count-joint-spec =
     add-byte-2
     byte-requires-2
     returns
-    add-at
-    add-at-2
+    first-arc-requires
     loop-holds
     add-byte-3
     byte-requires-3
@@ -178,7 +175,7 @@ count-joint-spec =
     add-size
     add-size-2
     arc-size-requires
-    add-at-3
+    add-at
     (λ c. omega arith)
     (λ c. omega arith)
     loop-again

@@ -4,68 +4,66 @@ use mathlib.Core.List.{flatMap}
 use Prim.Native.Nat.{ℕ, _-_, _*_, _≤_}
 use native.Mathlib.Omega.{arith}
 use lib.ListN.{drop}
+use Rattle.file_fields.specs.Parts.{firstArc}
 use Rattle.format.specs.Decoding.{arcOf, arcsOf, automatonOf}
 use Rattle.file_laws.proofs.Laws.{valid-arcs, valid-ranges}
 use Rattle.join_parts.proofs.Laws.{ArcHere, Walk, walk-here, walk-on, walk-start}
-use Rattle.join_product_count.specs.Pairing.{jointWith}
+use Rattle.join_product_count.specs.ProductArcs.{jointWith}
 use Rattle.join_product_count.proofs.Uncounted.{Uncounted, uncounted-all, uncounted-less, uncounted-none}
-use Rattle.join_product_count.proofs.ArcsOf.{flat-next, flat-none}
+use Rattle.join_product_count.proofs.ProductArcLaws.{flat-next, flat-none}
 use Rattle.join_product_count.proofs.count_lettered.Statement.{statement}
 use Rattle.join_product_count.proofs.count_lettered.Tie as tie
 
 abbrev Inv-loop : tie.InvT-loop
-Inv-loop a first b second arcs₀ size₀ many₀ from₀ i₀ arcs size many from i = (i ≤ a .arcs) × Walk a first (a .arcs - i) from × (arcs ≤ 2048 * i) × (size ≤ 2097152 * i) × ((n k : ℕ) → Uncounted (record { arcs = arcs; size = size; many = many }) (flatMap (jointWith n k (automatonOf second .arcs)) (arcsOf (a .arcs - i) (drop from first))) (flatMap (jointWith n k (automatonOf second .arcs)) (arcsOf (a .arcs) (drop from₀ first))))
+Inv-loop a first b second arcs₀ size₀ many₀ from₀ i₀ arcs size many from i = (i ≤ a .arcs) × Walk a first (a .arcs - i) from × (arcs ≤ 2048 * i) × (size ≤ 2097152 * i) × ((n k : ℕ) → Uncounted (record { arcs = arcs; size = size; many = many }) (flatMap (jointWith n k (automatonOf second .arcs)) (arcsOf (a .arcs - i) (drop from first))) (flatMap (jointWith n k (automatonOf second .arcs)) (arcsOf (a .arcs) (drop (firstArc a) first))))
 
 abbrev μ-loop : tie.MeasureT-loop
 μ-loop a first b second arcs₀ size₀ many₀ from₀ i₀ arcs size many from i = a .arcs - i
 
 -- the arc of this turn
-here : (c : tie.Then1 Inv-loop μ-loop) → let l = c .before .before in let a = l .before .before .before .before .before .args in ArcHere (a .a) (a .first .now) (l .loop .from)
+here : (c : tie.Then1 Inv-loop μ-loop) → let l = c .before .before in let a = l .before .before .before .before .args in ArcHere (a .a) (a .first .now) (l .loop .from)
 here c =
     let l = c .before .before in
-    let a = l .before .before .before .before .before .args in
+    let a = l .before .before .before .before .args in
     walk-here (a .a) (a .first .now) (a .a .arcs) (l .loop .i) (l .loop .from) (c .if1 .taken) (l .loop .inv .1)
 
-add-from : tie.Need-add-from Inv-loop μ-loop
-add-from c = omega (arith, valid-ranges _ _ (c .before .before .before .pre .0) .letters)
-
-add-from-2 : tie.Need-add-from-2 Inv-loop μ-loop
-add-from-2 c =
-    let r = valid-ranges _ _ (c .before .before .before .before .pre .0) in
-    omega (arith, r .letters, r .states)
+first-arc-requires : tie.Need-first-arc-requires Inv-loop μ-loop
+first-arc-requires c κs =
+    let r = valid-ranges _ _ (c .before .before .pre .0) in
+    (r .letters, omega (arith, r .states))
 
 loop-holds : tie.Need-loop-holds Inv-loop μ-loop
 loop-holds c =
-    let s = c .before .before .before .before in
+    let s = c .before .before .before in
     let m = s .args .a .arcs in
     let e : m - 0 ≡ m = omega arith in
-    (omega arith, rw e (walk-start _ _ (s .pre .0)), omega arith, omega arith, λ n k. rw e (uncounted-all _))
+    (omega arith, rw (e, c .first-arc .ensures) (walk-start _ _ (s .pre .0)), omega arith, omega arith, λ n k. rw (e, c .first-arc .ensures) (uncounted-all _))
 
 count-joint-requires : tie.Need-count-joint-requires Inv-loop μ-loop
-count-joint-requires c κs = (here c .whole, c .before .before .before .before .before .before .before .pre .1)
+count-joint-requires c κs = (here c .whole, c .before .before .before .before .before .before .pre .1)
 
 add-arcs : tie.Need-add-arcs Inv-loop μ-loop
 add-arcs c =
     let l = c .before .before .before .before in
-    omega (arith, c .before .count-joint .ensures .1, l .loop .inv .2, c .before .before .if1 .taken, valid-ranges _ _ (l .before .before .before .before .before .pre .0) .arcs)
+    omega (arith, c .before .count-joint .ensures .1, l .loop .inv .2, c .before .before .if1 .taken, valid-ranges _ _ (l .before .before .before .before .pre .0) .arcs)
 
 add-size : tie.Need-add-size Inv-loop μ-loop
 add-size c =
     let l = c .before .before .before .before .before in
-    omega (arith, c .before .before .count-joint .ensures .1, l .loop .inv .3, c .before .before .before .if1 .taken, valid-ranges _ _ (l .before .before .before .before .before .pre .0) .arcs)
+    omega (arith, c .before .before .count-joint .ensures .1, l .loop .inv .3, c .before .before .before .if1 .taken, valid-ranges _ _ (l .before .before .before .before .pre .0) .arcs)
 
 arc-size-requires : tie.Need-arc-size-requires Inv-loop μ-loop
 arc-size-requires c κs = omega (arith, here (c .before .before .before .before) .whole)
 
-add-from-3 : tie.Need-add-from-3 Inv-loop μ-loop
-add-from-3 c = omega (arith, here (c .before .before .before .before .before) .whole, c .arc-size .ensures .0)
+add-from : tie.Need-add-from Inv-loop μ-loop
+add-from c = omega (arith, here (c .before .before .before .before .before) .whole, c .arc-size .ensures .0)
 
 loop-again : tie.Need-loop-again Inv-loop μ-loop
 loop-again c =
     let joint = c .before .before .before .before in
     let t = joint .before in
     let l = t .before .before in
-    let a = l .before .before .before .before .before .args in
+    let a = l .before .before .before .before .args in
     let first = a .first .now in
     let ys = automatonOf (a .second .now) .arcs in
     let m = a .a .arcs in
@@ -81,7 +79,7 @@ loop-again c =
 returns : tie.Need-returns Inv-loop μ-loop
 returns c =
     let l = c .before .before in
-    let s = l .before .before .before .before .before in
+    let s = l .before .before .before .before in
     let a = s .args in
     let r = valid-ranges _ _ (s .pre .0) in (
       λ n k. rw (valid-arcs _ _ (s .pre .0)) (uncounted-none (rw (flat-none (jointWith n k (automatonOf (a .second .now) .arcs)) (a .a) (a .first .now) (a .a .arcs) (l .loop .i) (l .loop .from) (c .if1 .left)) at (l .loop .inv .4 n k))),
@@ -95,14 +93,13 @@ count-lettered-spec =
     (tie.spec
     Inv-loop
     μ-loop
-    add-from
-    add-from-2
+    first-arc-requires
     loop-holds
     count-joint-requires
     add-arcs
     add-size
     arc-size-requires
-    add-from-3
+    add-from
     (λ c. omega arith)
     (λ c. omega arith)
     loop-again

@@ -1,90 +1,79 @@
--- `table::accepts` meets its contract: each way out is a case of the definition (Accepting).
+-- `table::accepts` meets its contract: where the file is open, its rows are closed and the word is judged (Opening, Accepting).
 use borrow.Author.Needs.{needs}
 use mathlib.Core.Path.{_≡_, _∙_, ap, refl, subst, sym}
-use Prim.Native.Nat.{ℕ}
+use mathlib.Core.List.{[]}
+use mathlib.Core.Logic.{inl}
 use native.Mathlib.Omega.{arith}
 use lib.ListN.{length}
-use Rattle.table_configurations.specs.declared.Explored.{Explored}
-use Rattle.format.specs.Decoding.{decoded}
-use Rattle.file_fields.specs.Parts.{numberOf}
-use Rattle.table.specs.Membership.{judged}
-use Rattle.table.specs.Words.{BuiltAs}
+use Rattle.automata.specs.Automaton.{Automaton}
+use Rattle.format.specs.Decoding.{automatonOf, decoded}
+use Rattle.file_laws.proofs.Laws.{valid-decoded}
+use Rattle.word_layout.specs.Layout.{firstBlock}
+use Rattle.table_configurations.proofs.Laws.{placed-kept}
+use Rattle.table_operations.proofs.Laws.{indexed-kept, linked-kept}
+use Rattle.table.specs.Membership.{judged, membershipOf}
+use Rattle.table.specs.Opening.{HeldBy, Holds}
 use Rattle.table.specs.declared.Membership.the-variants.{Refused}
-use Rattle.table.proofs.Accepting.{answer-beyond, answer-fault, answer-judged, answer-short, built-ready, valid-few, valid-walkable}
+use Rattle.table.specs.declared.Opened.{Opened}
+use Rattle.table.proofs.ReadyLaws.{builds-tables, built-ready, valid-few, valid-walkable}
+use Rattle.table.proofs.Opening.{holds-decoded, opened-passed, opened-refused}
 use Rattle.table.proofs.accepts.Statement.{statement}
 use Rattle.table.proofs.accepts.Tie as tie
 
--- the working words are too few
+-- the block of the open file
+held : (c : tie.After-c) → let o = c .before .before .before .before in Holds (o .before .before .before .before .before .args .file .now) (c .c .given .0 .0) (o .open-file .last .1 .0) (c .c .given .0 .1 .0)
+held c = let o = c .before .before .before .before in subst (HeldBy (o .before .before .before .before .before .args .file .now) (o .open-file .last .1 .0)) (c .c .given .1) (o .open-file .ensures .1 .1)
+
+close-rows-requires : tie.Need-close-rows-requires
+close-rows-requires c κs =
+    let h = held (c .before .before) in
+    let few = h .explored .block .configured .few in
+    (few, (omega (arith, few, h .placed .block), λ i l. (h .explored .block .rows i i l) .1 (inl refl)))
+
+-- the file is refused
 returns : tie.Need-returns
-returns c = let a = c .before .before .before .before .args in (refl, answer-short (a .file .now) (a .word .now) (length (a .work .now)) (c .if1 .taken))
-
--- the file has a fault
-returns-2 : tie.Need-returns-2
-returns-2 c =
-    let g = c .before .enum-told .given in
-    let r = c .before .before .before in
-    let i = r .before in
-    let a = i .before .before .before .before .args in
-    (refl, ap (λ (n : ℕ). Refused n 1) (c .number .ensures ∙ ap numberOf (g .1)) ∙ answer-fault (a .file .now) (a .word .now) (length (a .work .now)) (i .if1 .left) (sym (g .1) ∙ r .read .ensures))
-
-build-requires : tie.Need-build-requires
-build-requires c κs =
-    let v = c .before .before .reading .given in
-    let r = c .before .before .before .before in
-    let i = r .before in
-    let a = i .before .before .before .before .args in
-    let e = sym (r .read .ensures) ∙ v .1 in
-    (valid-few (a .file .now) (v .0 .0) e, (valid-walkable (a .file .now) (v .0 .0) e, record { above = omega arith; block = omega (arith, i .if1 .left) }))
-
--- it has too many configurations
-returns-3 : tie.Need-returns-3
-returns-3 c =
-    let b = c .before .before .before .before in
-    let v = b .before .before .before .reading .given in
-    let r = b .before .before .before .before .before in
-    let i = r .before in
-    let a = i .before .before .before .before .args in
-    (b .build .ensures .0 .long, answer-beyond (a .file .now) (a .word .now) (length (a .work .now)) (i .if1 .left) (sym (v .1) ∙ r .read .ensures) (sym (c .enum-told2 .given .1) ∙ b .build .ensures .1 .1 .answer))
+unfolding membershipOf
+returns c =
+    let o = c .before .before .before .before .before in
+    let a = o .before .before .before .before .before .args in
+    (o .open-file .ensures .0, sym (opened-refused (a .file .now) (length (a .work .now)) Refused [] (judged 256 (automatonOf (a .file .now)) (a .word .now)) (sym (o .open-file .ensures .1 .0) ∙ c .before .number .given .1)))
 
 judge-word-requires : tie.Need-judge-word-requires
 judge-word-requires c κs =
-    let t = c .before .before .known .given in
-    let b = c .before .before .before .before .before .before in
-    let v = b .before .before .before .reading .given in
-    let r = b .before .before .before .before .before in
-    let i = r .before in
-    let a = i .before .before .before .before .args in
-    let built = subst (λ (x : Explored). BuiltAs (decoded (v .0 .0) (a .file .now)) 256 (b .build .last .1 .1 .0) 4992 x) (t .1) (b .build .ensures .1 .1 .block) in
-    (built-ready (sym (r .read .ensures) ∙ v .1) (record { above = omega arith; block = omega (arith, i .if1 .left, b .build .ensures .0 .long) }) (omega arith) (b .build .ensures .1 .0 .0) (b .build .ensures .1 .0 .1) (built .0) (built .1 .0) (built .1 .1), (omega arith, omega (arith, i .if1 .left, b .build .ensures .0 .long)))
+    let k = c .before .before .before in
+    let h = held (k .before .before .before) in
+    let y = k .close-rows .ensures in
+    let v = h .valid in
+    let walk = valid-walkable _ _ v in
+    let place = placed-kept (y .0 .long) (h .placed) in
+    let f = builds-tables _ _ (valid-few _ _ v) walk (h .placed) (holds-decoded h) (y .0) (y .1) .block in
+    (built-ready v place (omega (arith, h .first)) (indexed-kept _ _ walk (λ j l. y .0 .below j (omega (arith, h .placed .above))) (h .indexed)) (linked-kept _ _ walk (λ j l. y .0 .below j (omega (arith, h .placed .above))) (h .linked)) (f .0) (f .1 .0) (f .1 .1), (omega (arith, h .first), omega (arith, h .enough, y .0 .long)))
 
 -- the word is judged
-returns-4 : tie.Need-returns-4
-returns-4 c =
+returns-2 : tie.Need-returns-2
+unfolding membershipOf
+returns-2 c =
     let j = c .before .before in
-    let t = j .before .before .before .known .given in
-    let b = j .before .before .before .before .before .before .before in
-    let v = b .before .before .before .reading .given in
-    let r = b .before .before .before .before .before in
-    let i = r .before in
-    let a = i .before .before .before .before .args in
-    let judgement : j .judge-word .result ≡ judged 256 (decoded (v .0 .0) (a .file .now)) (a .word .now) = j .judge-word .ensures .1 in
-    (j .judge-word .ensures .0 .long ∙ b .build .ensures .0 .long, judgement ∙ answer-judged (a .file .now) (a .word .now) (length (a .work .now)) (i .if1 .left) (sym (v .1) ∙ r .read .ensures) (sym (t .1) ∙ b .build .ensures .1 .1 .answer))
+    let k = j .before .before .before .before in
+    let v = k .before .before .before in
+    let o = v .before .before .before .before in
+    let a = o .before .before .before .before .before .args in
+    let e = sym (o .open-file .ensures .1 .0) ∙ v .c .given .1 in (
+      j .judge-word .ensures .0 .long ∙ k .close-rows .ensures .0 .long ∙ o .open-file .ensures .0,
+      j .judge-word .ensures .1 ∙ ap (λ (x : Automaton). judged 256 x (a .word .now)) (sym (valid-decoded _ _ (held v .valid)))
+          ∙ sym (opened-passed (a .file .now) (length (a .work .now)) Refused [] (judged 256 (automatonOf (a .file .now)) (a .word .now)) e),
+    )
 
 pub accepts-spec : {M : Type 1} → statement M
 accepts-spec =
     tie.close
     (tie.spec
-    returns
     (λ c κs. search needs)
     (λ c. search needs)
     (λ c. search needs)
-    (λ c κs. search needs)
-    returns-2
-    build-requires
-    (λ c. search needs)
-    (λ c. search needs)
-    (λ c. search needs)
-    returns-3
+    close-rows-requires
     judge-word-requires
     (λ c. search needs)
-    returns-4)
+    returns
+    (λ c. search needs)
+    returns-2)

@@ -1,7 +1,7 @@
 -- `table_configurations::add_configuration` meets its contract: the word joins the table and its chain, then row `known` holds `known` alone.
 use borrow.Author.Needs.{needs}
-use Rattle.table_configurations.proofs.Fields.{row-alone}
-use Rattle.table_configurations.proofs.Tabling.{new-kept, configured-new, tabled-new}
+use Rattle.table_configurations.proofs.FieldLists.{row-alone}
+use Rattle.table_configurations.proofs.TableGrowth.{new-kept, configured-new, tabled-new}
 use Rattle.table_configurations.proofs.add_configuration.Statement.{statement}
 use Rattle.table_configurations.proofs.add_configuration.Tie as tie
 

@@ -8,11 +8,11 @@ use Rattle.table_configurations.proofs.list_arc.Tie as tie
 
 returns : tie.Need-returns
 returns c =
-    let p = c .before .before .put16 .ensures in
+    let p = c .before .before .list-arc .ensures in
     (kept-wider (omega arith) (omega arith) (p .0), rw (lt-ltb (c .before .before .before .before .before .before .args .plain) 2048 (omega arith)) (p .1))
 
 returns-2 : tie.Need-returns-2
 returns-2 c = (kept-same _ _ _, λ k. rw (le-ltb (c .before .before .args .plain) 2048 (c .if1 .left)))
 
 pub list-arc-spec : {M : Type 1} → statement M
-list-arc-spec = tie.close (tie.spec (λ c. search needs) (λ c. search needs) (λ c. search needs) (λ c κs. search needs) (λ c. search needs) returns returns-2)
+list-arc-spec = tie.close (tie.spec (λ c κs. search needs) (λ c. search needs) returns returns-2)

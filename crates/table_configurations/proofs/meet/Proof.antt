@@ -4,8 +4,8 @@ use native.Mathlib.Omega.{arith}
 use Prim.Native.Nat.{_+_}
 use Rattle.word_fields.proofs.Laws.{but-high, but-same, but-then, but-wider}
 use Rattle.format.specs.Decoding.{letterOf}
-use Rattle.table_configurations.proofs.Finding.{met-many, met-none, met-old}
-use Rattle.table_configurations.proofs.Tabling.{configured-kept}
+use Rattle.table_configurations.proofs.FindConfiguration.{met-many, met-none, met-old}
+use Rattle.table_configurations.proofs.TableGrowth.{configured-kept}
 use Rattle.table_configurations.proofs.meet.Statement.{statement}
 use Rattle.table_configurations.proofs.meet.Tie as tie
 

@@ -1,6 +1,6 @@
 -- `table_configurations::note_arc` meets its contract: the empty move is noted, then the plain arc listed.
 use borrow.Author.Needs.{needs}
-use Rattle.table_configurations.proofs.Tabling.{arc-kept, tabled-arc}
+use Rattle.table_configurations.proofs.TableGrowth.{arc-kept, tabled-arc}
 use Rattle.table_configurations.proofs.note_arc.Statement.{statement}
 use Rattle.table_configurations.proofs.note_arc.Tie as tie
 

@@ -3,7 +3,7 @@ use borrow.Author.Needs.{needs}
 use borrow.Author.Tests.{eq-eqb, ne-eqb}
 use native.Mathlib.Omega.{arith}
 use mathlib.Core.Path.{_∙_}
-use Rattle.table_configurations.proofs.Fields.{row-joined}
+use Rattle.table_configurations.proofs.FieldLists.{row-joined}
 use Rattle.word_fields.proofs.Laws.{kept-same, kept-wider}
 use Rattle.table_configurations.proofs.note_empty_move.Statement.{statement}
 use Rattle.table_configurations.proofs.note_empty_move.Tie as tie

@@ -12,7 +12,7 @@ use Rattle.word_rows.specs.Rows.{related}
 use Rattle.word_sets.specs.Sets.{inSet}
 use Rattle.table_sets.proofs.Laws.{led}
 use Rattle.table_letters.specs.Lettered.{sourceOf}
-use Rattle.table_letters.proofs.Following.{Following, following-end, following-less, following-more, following-skip, following-start, leading-onward}
+use Rattle.table_letters.proofs.FollowLetter.{Following, following-end, following-less, following-more, following-skip, following-start, leading-onward}
 use Rattle.table_letters.proofs.follow.Statement.{statement}
 use Rattle.table_letters.proofs.follow.Tie as tie
 
@@ -34,23 +34,20 @@ get16-requires-2 c κs = let p = c .before .before .before .before .before .pre 
 has-requires : tie.Need-has-requires Inv-loop μ-loop
 has-requires c κs = let i = c .before in omega (arith, c .get162 .ensures .0, i .before .before .before .before .before .pre .1 .small _ (i .loop-test .taken))
 
-add-get16 : tie.Need-add-get16 Inv-loop μ-loop
-add-get16 c = omega (arith, c .before .before .before .before .before .before .before .before .pre .1 .apart)
-
-get16-requires-3 : tie.Need-get16-requires-3 Inv-loop μ-loop
-get16-requires-3 c κs = let i = c .before .before .before in let p = i .before .before .before .before .before .pre in omega (arith, i .loop-test .taken, p .1 .few, p .1 .apart, p .1 .room)
+listed-arc-requires : tie.Need-listed-arc-requires Inv-loop μ-loop
+listed-arc-requires c κs = let i = c .before .before .before in let p = i .before .before .before .before .before .pre in omega (arith, i .loop-test .taken, p .1 .few, p .1 .apart, p .1 .room)
 
 load-requires : tie.Need-load-requires Inv-loop μ-loop
 load-requires c κs = let f = c .before .before .before .before .before .before .before .before .before .pre .1 in omega (arith, f .apart, f .room)
 
-get16-requires-4 : tie.Need-get16-requires-4 Inv-loop μ-loop
-get16-requires-4 c κs = let i = c .before .before .before in let p = i .before .before .before .before .before .pre in omega (arith, i .loop-test .taken, p .1 .few, p .1 .apart, p .1 .room)
+get16-requires-3 : tie.Need-get16-requires-3 Inv-loop μ-loop
+get16-requires-3 c κs = let i = c .before .before .before in let p = i .before .before .before .before .before .pre in omega (arith, i .loop-test .taken, p .1 .few, p .1 .apart, p .1 .room)
 
 loop-less : tie.Need-loop-less Inv-loop μ-loop
 loop-less c =
     let i = c .before .before .before .before in
     let l = i .before in
-    following-less (l .loop .inv) (l .before .before .before .before .pre .1) (i .loop-test .taken) (c .get164 .ensures .0)
+    following-less (l .loop .inv) (l .before .before .before .before .pre .1) (i .loop-test .taken) (c .get163 .ensures .0)
 
 loop-again : tie.Need-loop-again Inv-loop μ-loop
 unfolding related
@@ -64,9 +61,9 @@ loop-again c =
     let live : h .has .result ≡ inSet (a .set) (sourceOf (a .w .now) (l .loop .k)) = h .has .ensures ∙ ap (inSet (a .set)) (g .get162 .ensures .0) in
     ⊎-elim
     (λ t. rw (t .4)
-    (following-more (l .loop .inv) f (i .loop-test .taken) (c .get164 .ensures .0) (t .3 .result) (subst T (sym (t .0 .taken) ∙ live) tt)
-    (λ j. t .3 .ensures j ∙ ap (λ (b : Bool). inSet (l .loop .out) j || b) (ap (λ (s : List ℕ). inSet s j) (t .2 .ensures) ∙ ap (λ (x : ℕ). related (a .w .now) (a .base) (x % 256) j) (t .1 .ensures .0)))))
-    (λ t. rw (t .1) (following-skip (l .loop .inv) f (i .loop-test .taken) (c .get164 .ensures .0) (λ x. subst T (sym live ∙ t .0 .left) x)))
+    (following-more (l .loop .inv) f (i .loop-test .taken) (c .get163 .ensures .0) (t .3 .result) (subst T (sym (t .0 .taken) ∙ live) tt)
+    (λ j. t .3 .ensures j ∙ ap (λ (b : Bool). inSet (l .loop .out) j || b) (ap (λ (s : List ℕ). inSet s j) (t .2 .ensures) ∙ ap (λ (x : ℕ). related (a .w .now) (a .base) x j) (t .1 .ensures .1 .0)))))
+    (λ t. rw (t .1) (following-skip (l .loop .inv) f (i .loop-test .taken) (c .get163 .ensures .0) (λ x. subst T (sym live ∙ t .0 .left) x)))
     (c .before .if1 .came)
 
 returns : tie.Need-returns Inv-loop μ-loop
@@ -87,11 +84,10 @@ follow-spec =
     loop-holds
     get16-requires-2
     has-requires
-    add-get16
-    get16-requires-3
+    listed-arc-requires
     load-requires
     (λ c κs. tt)
-    get16-requires-4
+    get16-requires-3
     loop-less
     loop-again
     returns)

@@ -6,7 +6,7 @@ use native.Mathlib.Omega.{arith}
 use Rattle.word_fields.proofs.Laws.{field-same, kept-same, kept-then, kept-wider}
 use Rattle.table_sets.proofs.Laws.{block-kept}
 use Rattle.word_layout.specs.Layout.{sources}
-use Rattle.table_letters.proofs.Noting.{sourced-kept}
+use Rattle.table_letters.proofs.NoteSources.{sourced-kept}
 use Rattle.table_letters.proofs.link.Statement.{statement}
 use Rattle.table_letters.proofs.link.Tie as tie
 

@@ -4,7 +4,7 @@ use native.Mathlib.Omega.{arith}
 use Rattle.word_fields.specs.Frame.{Kept}
 use Rattle.word_fields.proofs.Laws.{kept-then, kept-wider}
 use Rattle.word_layout.specs.Layout.{letterNexts, letteredEnd}
-use Rattle.table_letters.proofs.Linking.{Linking, linking-end, linking-more, linking-start}
+use Rattle.table_letters.proofs.LinkLetters.{Linking, linking-end, linking-more, linking-start}
 use Rattle.table_letters.proofs.link_letters.Statement.{statement}
 use Rattle.table_letters.proofs.link_letters.Tie as tie
 
@@ -24,11 +24,8 @@ loop-holds c = let f = c .before .before .fill in linking-start _ _ _ (λ s h. f
 kept : (l : tie.At-loop Inv-loop μ-loop) → Kept letterNexts letteredEnd (l .before .before .before .before .before .before .args .w .now) (l .loop .w)
 kept l = kept-then (kept-wider (omega arith) (omega arith) (l .before .before .before .fill .ensures .0)) (l .loop .inv .kept)
 
-add-get16 : tie.Need-add-get16 Inv-loop μ-loop
-add-get16 c = omega (arith, c .before .before .before .before .before .before .before .before .pre .0)
-
-get16-requires : tie.Need-get16-requires Inv-loop μ-loop
-get16-requires c κs =
+listed-arc-requires : tie.Need-listed-arc-requires Inv-loop μ-loop
+listed-arc-requires c κs =
     let i = c .before in
     let l = i .before in
     let p = l .before .before .before .before .before .before .pre in
@@ -40,7 +37,7 @@ push-requires c κs =
     let i = g .before .before in
     let l = i .before in
     let p = l .before .before .before .before .before .before .pre in
-    omega (arith, i .loop-test .taken, g .get16 .ensures .1, p .0, p .1, kept l .long)
+    omega (arith, i .loop-test .taken, g .listed-arc .ensures .0 .1, p .0, p .1, kept l .long)
 
 add-k : tie.Need-add-k Inv-loop μ-loop
 add-k c =
@@ -57,7 +54,7 @@ loop-again c =
     let i = g .before .before in
     let l = i .before in
     let s = l .before .before .before .before .before .before in
-    linking-more (s .pre .0) (s .pre .1 .1) (i .loop-test .taken) (g .get16 .ensures .0) (g .get16 .ensures .1) (p .push .ensures .0) (p .push .ensures .1) (l .loop .inv)
+    linking-more (s .pre .0) (s .pre .1 .1) (i .loop-test .taken) (g .listed-arc .ensures .0 .0) (g .listed-arc .ensures .0 .1) (p .push .ensures .0) (p .push .ensures .1) (l .loop .inv)
 
 same-length : tie.Need-same-length Inv-loop μ-loop
 same-length c = kept (c .before) .long
@@ -73,8 +70,7 @@ link-letters-spec =
     μ-loop
     fill-requires
     loop-holds
-    add-get16
-    get16-requires
+    listed-arc-requires
     push-requires
     add-k
     loop-less

@@ -1,7 +1,7 @@
 -- `table_letters::note_source` meets its contract. The loop's invariant: the arcs before k have the source c (NotingOne).
 use Prim.Native.Nat.{_-_}
 use native.Mathlib.Omega.{arith}
-use Rattle.table_letters.proofs.Noting.{NotingOne, noting-one-more, noting-one-start}
+use Rattle.table_letters.proofs.NoteSources.{NotingOne, noting-one-more, noting-one-start}
 use Rattle.table_letters.proofs.note_source.Statement.{statement}
 use Rattle.table_letters.proofs.note_source.Tie as tie
 

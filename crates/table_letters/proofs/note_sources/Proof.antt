@@ -3,9 +3,8 @@
 use mathlib.Core.Logic.{inr}
 use Prim.Native.Nat.{_-_}
 use native.Mathlib.Omega.{arith}
-use Rattle.table_sets.specs.Stepping.{startAt}
 use Rattle.table_sets.proofs.Laws.{SameBlock, block-kept}
-use Rattle.table_letters.proofs.Noting.{Noting, noting-end, noting-more, noting-range, noting-start}
+use Rattle.table_letters.proofs.NoteSources.{Noting, noting-end, noting-more, noting-range, noting-start}
 use Rattle.table_letters.proofs.note_sources.Statement.{statement}
 use Rattle.table_letters.proofs.note_sources.Tie as tie
 
@@ -22,11 +21,8 @@ loop-holds c = let p = c .before .pre .1 .1 in noting-start (p .0) (p .1)
 same : (l : tie.At-loop Inv-loop μ-loop) → SameBlock (l .before .before .args .base) (l .before .before .args .w .now) (l .loop .w)
 same l = block-kept (l .loop .inv .kept) (inr (l .before .before .pre .0))
 
-add-get16 : tie.Need-add-get16 Inv-loop μ-loop
-add-get16 c = let l = c .before .before in omega (arith, l .before .before .pre .0)
-
-get16-requires : tie.Need-get16-requires Inv-loop μ-loop
-get16-requires c κs =
+first-arc-requires : tie.Need-first-arc-requires Inv-loop μ-loop
+first-arc-requires c κs =
     let i = c .before in
     let l = i .before in
     let p = l .before .before .pre in
@@ -40,14 +36,13 @@ end-of-requires c κs =
     (i .loop-test .taken, (p .1 .1 .1 .few, omega (arith, p .0, p .1 .0, same l .long)))
 
 note-source-requires : tie.Need-note-source-requires Inv-loop μ-loop
-unfolding startAt
 note-source-requires c κs =
     let e = c .before in
     let g = e .before .before in
     let i = g .before .before in
     let l = i .before in
     let p = l .before .before .pre in
-    let r = noting-range (p .1 .1 .1) (i .loop-test .taken) (same l) (l .loop .inv) (g .get16 .ensures .0) (e .end-of .ensures) in
+    let r = noting-range (p .1 .1 .1) (i .loop-test .taken) (same l) (l .loop .inv) (g .first-arc .ensures) (e .end-of .ensures) in
     (r .0, (r .1, (omega (arith, i .loop-test .taken, p .1 .1 .1 .few), omega (arith, p .0, p .1 .0, same l .long))))
 
 add-c : tie.Need-add-c Inv-loop μ-loop
@@ -59,7 +54,6 @@ loop-less : tie.Need-loop-less Inv-loop μ-loop
 loop-less c = omega (arith, c .before .before .before .before .before .before .before .before .loop-test .taken)
 
 loop-again : tie.Need-loop-again Inv-loop μ-loop
-unfolding startAt
 loop-again c =
     let n = c .before .before in
     let e = n .before .before in
@@ -67,7 +61,7 @@ loop-again c =
     let i = g .before .before in
     let l = i .before in
     let x = n .note-source .ensures in
-    noting-more (l .before .before .pre .1 .1 .1) (i .loop-test .taken) (same l) (l .loop .inv) (g .get16 .ensures .0) (e .end-of .ensures) (x .0) (x .1 .0) (x .1 .1)
+    noting-more (l .before .before .pre .1 .1 .1) (i .loop-test .taken) (same l) (l .loop .inv) (g .first-arc .ensures) (e .end-of .ensures) (x .0) (x .1 .0) (x .1 .1)
 
 same-length : tie.Need-same-length Inv-loop μ-loop
 same-length c = same (c .before) .long
@@ -82,8 +76,7 @@ note-sources-spec =
     Inv-loop
     μ-loop
     loop-holds
-    add-get16
-    get16-requires
+    first-arc-requires
     end-of-requires
     note-source-requires
     add-c

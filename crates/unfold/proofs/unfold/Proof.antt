@@ -1,105 +1,42 @@
--- `unfold::unfold` meets its contract: each way out is a case of the definition (Answering).
-use mathlib.Core.Path.{_∙_, _≡_, ap, refl, subst, sym}
-use Prim.Native.Nat.{ℕ}
-use native.Mathlib.Omega.{arith}
+-- `unfold::unfold` meets its contract: where the file is open, the answer is that of its automaton (Answering).
+use mathlib.Core.Path.{_∙_, refl, subst, sym}
 use borrow.Author.Needs.{needs}
 use lib.ListN.{length}
-use Rattle.table_configurations.specs.declared.Explored.{Explored}
-use Rattle.table_explore.specs.Explores.{Explores}
-use Rattle.file_fields.specs.declared.Reading.the-variants.{Valid}
-use Rattle.format.specs.Decoding.{automatonOf}
-use Rattle.file_fields.specs.Parts.{numberOf}
-use Rattle.format.specs.Reading.{readingOf}
-use Rattle.file_laws.proofs.Laws.{valid-arcs}
-use Rattle.table.proofs.Laws.{valid-walkable}
-use Rattle.file_writing.specs.declared.Written.the-variants.{Refused}
-use Rattle.unfold.proofs.Answering.{answer-beyond, answer-fault, answer-result, answer-short}
-use Rattle.unfold.proofs.Explored.{known, registers-are}
+use Rattle.table.specs.Opening.{HeldBy, Holds}
+use Rattle.unfold.proofs.AnswerLaws.{answer-open, answer-refused}
 use Rattle.unfold.proofs.unfold.Statement.{statement}
 use Rattle.unfold.proofs.unfold.Tie as tie
 
--- the file is valid, once its counts are taken
-valid : (c : tie.After-reading) → readingOf (c .before .before .before .before .before .before .before .args .file .now) ≡ Valid (c .reading .given .0 .0)
-valid c = sym (c .before .before .read .ensures) ∙ c .reading .given .1
+-- the block of the open file
+held : (c : tie.After-c) → let o = c .before .before .before .before in Holds (o .before .before .before .before .before .args .file .now) (c .c .given .0 .0) (o .open-file .last .1 .0) (c .c .given .0 .1 .0)
+held c = let o = c .before .before .before .before in subst (HeldBy (o .before .before .before .before .before .args .file .now) (o .open-file .last .1 .0)) (c .c .given .1) (o .open-file .ensures .1 .1)
 
--- what exploring leaves, of the automaton of the file
-told : (b : tie.After-explore-all) (r : Explored) → b .explore-all .result ≡ r → let v = b .before .before .before in let a = v .before .before .before .before .before .before .before .args in
-    Explores (automatonOf (a .file .now)) 256 (b .explore-all .last .1 .1 .0) 4992 r
-told b r q =
-    let v = b .before .before .before in
-    let a = v .before .before .before .before .before .before .before .args in
-    let e = valid v in
-    subst (λ (r : Explored). Explores (automatonOf (a .file .now)) 256 (b .explore-all .last .1 .1 .0) 4992 r) q (b .explore-all .ensures .1 .1 (automatonOf (a .file .now)) (registers-are _ _ e) (valid-arcs _ _ e))
-
--- the working words are too few
+-- the file is refused
 returns : tie.Need-returns
-returns c = let a = c .before .before .before .before .args in (refl, (answer-short (a .file .now) (length (a .work .now)) (length (a .out .now)) (c .if1 .taken), refl))
-
--- the file has a fault
-returns-2 : tie.Need-returns-2
-returns-2 c =
-    let g = c .before .enum-told .given in
-    let r = c .before .before .before in
-    let i = r .before in
-    let a = i .before .before .before .before .args in
-    (refl, (ap (λ (n : ℕ). Refused n 1) (c .number .ensures ∙ ap numberOf (g .1)) ∙ answer-fault (a .file .now) (length (a .work .now)) (length (a .out .now)) (i .if1 .left) (sym (g .1) ∙ r .read .ensures), refl))
-
-explore-all-requires : tie.Need-explore-all-requires
-explore-all-requires c κs =
-    let v = c .before .before in
-    let i = v .before .before .before in
-    (valid-walkable _ _ (valid v), record { above = omega arith; block = omega (arith, i .if1 .left) })
-
--- it has too many configurations
-returns-3 : tie.Need-returns-3
-returns-3 c =
-    let b = c .before .before .before .before in
-    let v = b .before .before .before in
-    let i = v .before .before .before in
-    let a = i .before .before .before .before .args in
-    let f = told b _ (c .enum-told2 .given .1) in
-    (b .explore-all .ensures .0 .long, (answer-beyond (a .file .now) (length (a .work .now)) (length (a .out .now)) (i .if1 .left) (sym (valid v)) (f .answer), refl))
-
-write-result-requires : tie.Need-write-result-requires
-write-result-requires c κs =
-    let b = c .before .before .before .before .before .before .before in
-    let v = b .before .before .before in
-    let i = v .before .before .before in
-    (valid v, record { above = omega arith; block = omega (arith, i .if1 .left, b .explore-all .ensures .0 .long) }, told b _ (c .before .before .before .known .given .1))
+returns c =
+    let o = c .before .before .before .before .before in
+    let a = o .before .before .before .before .before .args in
+    (o .open-file .ensures .0, (answer-refused (a .file .now) (length (a .work .now)) (length (a .out .now)) (sym (o .open-file .ensures .1 .0) ∙ c .before .number .given .1), refl))
 
 -- the answer of the automaton
-returns-4 : tie.Need-returns-4
-returns-4 c =
+returns-2 : tie.Need-returns-2
+returns-2 c =
     let r = c .before .before in
-    let k = r .before .before .before .before in
-    let b = k .before .before .before .before in
-    let v = b .before .before .before in
-    let i = v .before .before .before in
-    let a = i .before .before .before .before .args in
-    let f = known _ _ (valid v) (told b _ (k .known .given .1)) in (
-      b .explore-all .ensures .0 .long,
-      (
-        r .write-result .ensures .0 ∙ answer-result (a .file .now) (length (a .work .now)) (length (a .out .now)) (i .if1 .left) (sym (valid v)) (omega (arith, f .many, f .few)),
-        r .write-result .ensures .1,
-      ),
-    )
+    let v = r .before .before .before .before in
+    let o = v .before .before .before .before in
+    let a = o .before .before .before .before .before .args in
+    (o .open-file .ensures .0, (r .write-result .ensures .0 ∙ answer-open (a .file .now) (length (a .work .now)) (length (a .out .now)) (sym (o .open-file .ensures .1 .0) ∙ v .c .given .1), r .write-result .ensures .1))
 
 pub unfold-spec : {M : Type 1} → statement M
 unfold-spec =
     tie.close
     (tie.spec
+    (λ c κs. search needs)
+    (λ c. search needs)
+    (λ c. search needs)
+    (λ c κs. held (c .before .before .before))
+    (λ c. search needs)
     returns
-    (λ c κs. search needs)
     (λ c. search needs)
     (λ c. search needs)
-    (λ c κs. search needs)
-    returns-2
-    explore-all-requires
-    (λ c. search needs)
-    (λ c. search needs)
-    (λ c. search needs)
-    returns-3
-    write-result-requires
-    (λ c. search needs)
-    (λ c. search needs)
-    returns-4)
+    returns-2)

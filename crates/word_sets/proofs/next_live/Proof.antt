@@ -5,7 +5,7 @@ use Prim.Native.Nat.{_-_, _*_, _≤_}
 use lib.Count.{trailing-le}
 use Rattle.word_sets.proofs.Bits.{mask-is}
 use Rattle.word_sets.proofs.SetLaws.{four}
-use Rattle.word_sets.proofs.Scanning.{Scanned, restOf, scanned-start, scanned-skip, scanned-hit, scanned-end}
+use Rattle.word_sets.proofs.NextLive.{Scanned, restOf, scanned-start, scanned-skip, scanned-hit, scanned-end}
 use Rattle.word_sets.proofs.next_live.Statement.{statement}
 use Rattle.word_sets.proofs.next_live.Tie as tie
 

@@ -1,4 +1,4 @@
--- `compare::deciding::decide` meets its contract: each way out is an answer of the table that searching leaves (Found).
+-- `compare::deciding::decide` meets its contract: each way out is an answer of the table that searching leaves (DecidingLaws).
 use borrow.Author.Needs.{needs}
 use mathlib.Core.Path.{_≡_, subst}
 use Prim.Native.Nat.{_<_, _≤_}
@@ -10,19 +10,19 @@ use Rattle.compare_pairs.specs.Entries.{Side, along, begin, sideOf}
 use Rattle.compare_pairs.specs.declared.Grown.{Grown}
 use Rattle.compare_pairs.specs.declared.Grown.the-variants.{TooMany, Total}
 use Rattle.compare_search.specs.Searching.{Both, Grows, Outcome, Table}
-use Rattle.compare.proofs.Found.{answer-different, answer-many, answer-same, outcome}
+use Rattle.compare.proofs.DecidingLaws.{answer-different, answer-many, answer-same, outcome}
 use Rattle.compare.proofs.deciding.decide.Statement.{statement}
 use Rattle.compare.proofs.deciding.decide.Tie as tie
 
 abbrev start : tie.After-explore-pairs → tie.Start
-start x = x .before .before .before .before .before
+start x = x .before .before .before .before .before .before .before
 
 abbrev from : tie.After-known-told → tie.After-explore-pairs
 from z = z .before .before .before .before .before
 
 -- what searching answers, of any two sides
 met : (x : tie.After-explore-pairs) (r : Grown) → x .explore-pairs .result ≡ r → let a = start x .args in
-    (s t : Side) → Both (length (a .letters .now)) s t (a .w .now) (a .count1) (a .plain1) (a .count2) (a .plain2)
+    (s t : Side) → Both (length (a .letters .now)) s t (a .w .now) (a .one .count) (a .one .plain) (a .two .count) (a .two .plain)
     → Outcome 512 s t (x .explore-pairs .last .0) (entries samePair (along s t) (length (a .letters .now)) (begin s t) 512) r
 met x r e =
     let a = start x .args in
@@ -39,7 +39,7 @@ low : (y : tie.Else1) → y .before .first-difference .result < y .before .befor
 low y = omega (arith, y .before .first-difference .ensures .0, y .if1 .left)
 
 explore-pairs-requires : tie.Need-explore-pairs-requires
-explore-pairs-requires c κs = c .before .before .before .before .pre .0
+explore-pairs-requires c κs = c .before .before .before .before .before .before .pre .0
 
 returns : tie.Need-returns
 returns c =

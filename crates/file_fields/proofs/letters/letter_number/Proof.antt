@@ -10,7 +10,7 @@ use lib.ListN.{getD, drop}
 use Rattle.file_fields.specs.declared.letters.Letter.the-variants.{At}
 use Rattle.file_fields.specs.Parts.{letterBytes}
 use Rattle.file_fields.specs.Letters.{letterFrom}
-use Rattle.file_fields.proofs.Steps.{letter-at, letter-end, letters-length, letters-at}
+use Rattle.file_fields.proofs.ReadingTurns.{letter-at, letter-end, letters-length, letters-at}
 use Rattle.file_fields.proofs.letters.letter_number.Statement.{statement}
 use Rattle.file_fields.proofs.letters.letter_number.Tie as tie
 
@@ -34,7 +34,10 @@ loop-holds : tie.Need-loop-holds Inv-loop μ-loop
 loop-holds c = (omega arith, refl)
 
 returns : tie.Need-returns Inv-loop μ-loop
-returns c = sym (turn (c .before .before) ∙ rw (eq-eqb _ _ (c .if2 .taken)))
+returns c =
+    let t = c .before .before in
+    let a = t .before .before .before .args in
+    sym (turn t ∙ rw (eq-eqb (getD (a .file .now) (12 + t .before .before .loop .i) 0) (a .byte) (c .if2 .taken)))
 
 loop-again : tie.Need-loop-again Inv-loop μ-loop
 loop-again c = (omega arith, turn (c .before .before) ∙ rw (ne-eqb _ _ (c .if2 .left), add-one))

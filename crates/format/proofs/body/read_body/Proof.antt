@@ -1,11 +1,13 @@
 -- What follows the header: at each return the tests before it hold, and the one there fails or all hold.
 use mathlib.Core.Path.{_≡_, ap, _∙_}
-use Prim.Native.Nat.{_+_, _-_}
+use Prim.Native.Nat.{ℕ, _+_, _-_, _≤_}
 use native.Mathlib.Omega.{arith}
 use borrow.Author.Tests.{le-leb, lt-leb}
-use lib.ListN.{take, drop}
-use Rattle.file_fields.specs.Parts.{letterBytes, flagBytes, ascending, flags, firstFault}
-use Rattle.file_fields.proofs.Laws.{failed, passed}
+use lib.Dec.{leb}
+use lib.ListN.{length, take, drop}
+use Rattle.file_fields.specs.declared.Reading.the-variants.{Refused}
+use Rattle.file_fields.specs.Parts.{letterBytes, flagBytes, firstArc, ascending, ascendingFront, flags, flagsFront, firstFault}
+use Rattle.file_fields.proofs.Laws.{failed, flags-all, flags-length, letters-length, passed}
 use borrow.Author.Needs.{needs}
 use Rattle.format.proofs.body.read_body.Statement.{statement}
 use Rattle.format.proofs.body.read_body.Tie as tie
@@ -17,40 +19,85 @@ ascended c =
     let e : 12 + a .c .letters - 12 ≡ a .c .letters = omega arith in
     c .is-ascending .ensures ∙ ap (λ n. ascending (take n (drop 12 (a .file .now)))) e
 
-flagged : (c : tie.After-are-flags) → let a = c .before .before .before .before .before .before .before .before .before .before .args in c .are-flags .result ≡ flags (flagBytes (a .c) (a .file .now))
+flagged : (c : tie.After-flags-front) → let a = c .before .before .before .before .before .before .before .before .before .before .args in
+    c .flags-front .result ≡ flagsFront (flagBytes (a .c) (a .file .now))
 flagged c =
     let a = c .before .before .before .before .before .before .before .before .before .before .args in
     let e : 12 + a .c .letters + a .c .states - (12 + a .c .letters) ≡ a .c .states = omega arith in
-    c .are-flags .ensures ∙ ap (λ n. flags (take n (drop (12 + a .c .letters) (a .file .now)))) e
+    c .flags-front .ensures ∙ ap (λ n. flagsFront (take n (drop (12 + a .c .letters) (a .file .now)))) e
+
+-- all are flags just if as many at the front are as there are
+all-flags : (c : tie.After-flags-front) → let a = c .before .before .before .before .before .before .before .before .before .before .args in
+    flags (flagBytes (a .c) (a .file .now)) ≡ leb (a .c .states) (c .flags-front .result)
+all-flags c =
+    let a = c .before .before .before .before .before .before .before .before .before .before .args in
+    flags-all (flagBytes (a .c) (a .file .now)) ∙ rw (flags-length (a .c) (a .file .now) (c .before .before .if3 .left), flagged c)
+
+-- how many letters ascend: no more than there are
+placed : (c : tie.After-ascending-front) → let a = c .before .before .before .before .before .before .before .before .args in
+    (c .ascending-front .result ≡ ascendingFront (letterBytes (a .c) (a .file .now))) × (c .ascending-front .result ≤ a .c .letters)
+placed c =
+    let i = c .before .before .before .before .before in
+    let a = i .before .before .before .args in
+    let e : 12 + a .c .letters - 12 ≡ a .c .letters = omega arith in
+    let known = rw e at (c .ascending-front .ensures) in
+    let n = letters-length (a .c) (a .file .now) (i .if1 .left) in
+    (known .0, omega (arith, known .1))
 
 returns : tie.Need-returns
 unfolding firstFault
-returns c = rw (lt-leb _ _ (c .if1 .taken))
+returns c = let a = c .before .before .before .args in rw (lt-leb (12 + a .c .letters) (length (a .file .now)) (omega arith))
 
 returns-2 : tie.Need-returns-2
 unfolding firstFault
-returns-2 c = rw (le-leb _ _ (c .before .before .before .if1 .left), failed (ascended (c .before)) (c .if2 .taken))
+returns-2 c =
+    let r = c .before .before .before in
+    let a = r .before .before .before .before .before .args in
+    rw (le-leb (12 + a .c .letters) (length (a .file .now)) (omega arith), failed (ascended r) (c .before .before .if2 .taken)) (ap (λ (n : ℕ). Refused 5 (12 + n)) (placed c .0))
 
 returns-3 : tie.Need-returns-3
 unfolding firstFault
 returns-3 c =
     let c2 = c .before .before in
-    rw (le-leb _ _ (c2 .before .before .before .if1 .left), passed (ascended (c2 .before)) (c2 .if2 .left), lt-leb _ _ (c .if3 .taken))
+    let r = c2 .before in
+    let a = r .before .before .before .before .before .args in
+    rw (
+      le-leb (12 + a .c .letters) (length (a .file .now)) (omega arith),
+      passed (ascended r) (c2 .if2 .left),
+      lt-leb (firstArc (a .c)) (length (a .file .now)) (omega arith),
+    )
 
 returns-4 : tie.Need-returns-4
 unfolding firstFault
 returns-4 c =
-    let c3 = c .before .before .before in
+    let f = c .before .before in
+    let c3 = f .before .before in
     let c2 = c3 .before .before in
-    rw (le-leb _ _ (c2 .before .before .before .if1 .left), passed (ascended (c2 .before)) (c2 .if2 .left), le-leb _ _ (c3 .if3 .left), failed (flagged (c .before)) (c .if4 .taken))
+    let r = c2 .before in
+    let a = r .before .before .before .before .before .args in
+    rw (
+      le-leb (12 + a .c .letters) (length (a .file .now)) (omega arith),
+      passed (ascended r) (c2 .if2 .left),
+      le-leb (firstArc (a .c)) (length (a .file .now)) (omega arith),
+      all-flags f ∙ lt-leb _ _ (c .if4 .taken),
+    )
+    (ap (λ (n : ℕ). Refused 6 (12 + a .c .letters + n)) (flagged f))
 
 returns-5 : tie.Need-returns-5
 unfolding firstFault
 returns-5 c =
     let c4 = c .before in
-    let c3 = c4 .before .before .before in
+    let f = c4 .before .before in
+    let c3 = f .before .before in
     let c2 = c3 .before .before in
-    rw (le-leb _ _ (c2 .before .before .before .if1 .left), passed (ascended (c2 .before)) (c2 .if2 .left), le-leb _ _ (c3 .if3 .left), passed (flagged (c4 .before)) (c4 .if4 .left))
+    let r = c2 .before in
+    let a = r .before .before .before .before .before .args in
+    rw (
+      le-leb (12 + a .c .letters) (length (a .file .now)) (omega arith),
+      passed (ascended r) (c2 .if2 .left),
+      le-leb (firstArc (a .c)) (length (a .file .now)) (omega arith),
+      all-flags f ∙ le-leb _ _ (c4 .if4 .left),
+    )
     (c .read-arcs .ensures)
 
 pub read-body-spec : {M : Type 1} → statement M
@@ -63,6 +110,11 @@ read-body-spec =
     (λ c. search needs)
     (λ c. search needs)
     (λ c κs. search needs)
+    (λ c. search needs)
+    (λ c. search needs)
+    (λ c. search needs)
+    (λ c κs. search needs)
+    (λ c. omega (arith, placed c))
     returns-2
     (λ c. search needs)
     returns-3
@@ -70,6 +122,7 @@ read-body-spec =
     (λ c. search needs)
     (λ c. search needs)
     (λ c κs. search needs)
+    (λ c. search needs)
     returns-4
     (λ c κs. search needs)
     returns-5)

@@ -5,7 +5,7 @@ use mathlib.Core.Bool.{Bool}
 use mathlib.Core.List.{List, _++_, map}
 use Prim.Native.Nat.{ℕ, _+_, _-_, _<_, _≤_}
 use native.Mathlib.Omega.{arith}
-use lib.ListN.{length, length-replicate, replicate}
+use lib.ListN.{getD, length, length-replicate, replicate}
 use Rattle.automata.specs.Joins.{bothFinal}
 use Rattle.file_fields.specs.Parts.{flagBytes}
 use Rattle.format.specs.Decoding.{automatonOf}
@@ -13,7 +13,7 @@ use Rattle.format.specs.Encoding.{flagByte}
 use Rattle.file_laws.proofs.Laws.{file-seen, valid-ranges}
 use Rattle.file_writing.proofs.Laws.{Left, left-all, left-fits, left-less, left-none}
 use Rattle.join_parts.proofs.Laws.{valid-finals, valid-flags, valid-lengths}
-use Rattle.join_intersection.proofs.FlagLaws.{flagsFrom, flags-none, flag-at, flags-final, flags-other, flags-length}
+use Rattle.join_intersection.proofs.BothFlags.{flagsFrom, flags-none, flag-at, flags-final, flags-other, flags-length}
 use Rattle.join_intersection.proofs.finals.write_both_flags.Statement.{statement}
 use Rattle.join_intersection.proofs.finals.write_both_flags.Tie as tie
 
@@ -34,6 +34,13 @@ placed c =
     let s = l .before .before .before .before .before in
     omega (arith, c .if1 .taken, file-seen _ _ (s .pre .0) .there)
 
+-- the byte that is read is the flag of this turn
+flag-read : (c : tie.After-byte Inv-loop μ-loop) → let l = c .before .before .before in let a = l .before .before .before .before .before .args in getD (flagBytes (a .a) (a .first .now)) (l .loop .i) 0 ≡ c .byte .result
+flag-read c =
+    let l = c .before .before .before in
+    let a = l .before .before .before .before .before .args in
+    flag-at (a .a) (a .first .now) (l .loop .i) (c .before .if1 .taken) ∙ rw (← l .before .flags-at .ensures) (sym (c .byte .ensures .0))
+
 -- a row is written in this turn, by the first's flag
 final-turn : (c : tie.Then2 Inv-loop μ-loop) → let l = c .before .before .before .before in let a = l .before .before .before .before .before .args in let y = automatonOf (a .second .now) .finals in
     Left (a .at) (map flagByte (bothFinal (automatonOf (a .first .now) .finals) y)) (a .out .now) (l .loop .to) (map flagByte y ++ flagsFrom (flagBytes (a .a) (a .first .now)) y (l .loop .i + 1)) (l .loop .out)
@@ -43,7 +50,7 @@ final-turn c =
     let a = s .args in
     let first = a .first .now in
     let h = c .before .before .if1 .taken in
-    rw (flags-final (flagBytes (a .a) first) (automatonOf (a .second .now) .finals) (l .loop .i) (omega (arith, h, flag-count s)) (flag-at (a .a) first (l .loop .i) h ∙ sym (c .before .byte .ensures .0) ∙ c .if2 .taken)) at (l .loop .inv .1)
+    rw (flags-final (flagBytes (a .a) first) (automatonOf (a .second .now) .finals) (l .loop .i) (omega (arith, h, flag-count s)) (flag-read (c .before) ∙ c .if2 .taken)) at (l .loop .inv .1)
 
 other-turn : (c : tie.Else2 Inv-loop μ-loop) → let l = c .before .before .before .before in let a = l .before .before .before .before .before .args in let y = automatonOf (a .second .now) .finals in
     Left (a .at) (map flagByte (bothFinal (automatonOf (a .first .now) .finals) y)) (a .out .now) (l .loop .to) (replicate (a .b .states) 0 ++ flagsFrom (flagBytes (a .a) (a .first .now)) y (l .loop .i + 1)) (l .loop .out)
@@ -53,10 +60,10 @@ other-turn c =
     let a = s .args in
     let first = a .first .now in
     let h = c .before .before .if1 .taken in
-    rw (flags-other (flagBytes (a .a) first) (automatonOf (a .second .now) .finals) (l .loop .i) (omega (arith, h, flag-count s)) (λ e. c .if2 .left (c .before .byte .ensures .0 ∙ sym (flag-at (a .a) first (l .loop .i) h) ∙ e)), valid-lengths _ _ (s .pre .1) .1) at (l .loop .inv .1)
+    rw (flags-other (flagBytes (a .a) first) (automatonOf (a .second .now) .finals) (l .loop .i) (omega (arith, h, flag-count s)) (λ e. c .if2 .left (sym (flag-read (c .before)) ∙ e)), valid-lengths _ _ (s .pre .1) .1) at (l .loop .inv .1)
 
-add-flags : tie.Need-add-flags Inv-loop μ-loop
-add-flags c = omega (arith, valid-ranges _ _ (c .before .before .before .before .pre .0) .letters)
+flags-at-requires : tie.Need-flags-at-requires Inv-loop μ-loop
+flags-at-requires c κs = valid-ranges _ _ (c .before .before .before .pre .0) .letters
 
 loop-holds : tie.Need-loop-holds Inv-loop μ-loop
 loop-holds c =
@@ -114,7 +121,7 @@ write-both-flags-spec =
     (tie.spec
     Inv-loop
     μ-loop
-    add-flags
+    flags-at-requires
     loop-holds
     add-byte
     byte-requires

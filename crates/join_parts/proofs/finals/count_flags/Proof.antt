@@ -5,7 +5,7 @@ use Prim.Native.Nat.{_+_, _-_, _<_, _≤_}
 use native.Mathlib.Omega.{arith}
 use lib.ListN.{length}
 use Rattle.join_parts.proofs.finals.count_flags.Statement.{statement}
-use Rattle.join_parts.proofs.FinalLaws.{final-here, final-none, final-not, finalFrom}
+use Rattle.join_parts.proofs.FinalFlags.{final-here, final-none, final-not, finalFrom}
 use Rattle.join_parts.proofs.finals.count_flags.Tie as tie
 
 abbrev Inv-loop : tie.InvT-loop

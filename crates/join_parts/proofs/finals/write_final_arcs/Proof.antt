@@ -5,11 +5,11 @@ use lib.ListN.{length-drop, length-take}
 use Rattle.automata.proofs.Laws.{at}
 use Rattle.file_laws.proofs.Laws.{file-seen, valid-ranges}
 use Rattle.join_parts.proofs.finals.write_final_arcs.Statement.{statement}
-use Rattle.join_parts.proofs.FinalLaws.{lent-finals}
+use Rattle.join_parts.proofs.FinalFlags.{lent-finals}
 use Rattle.join_parts.proofs.finals.write_final_arcs.Tie as tie
 
-add-flags : tie.Need-add-flags
-add-flags c = omega (arith, valid-ranges _ _ (c .before .before .before .pre .0) .letters)
+flags-at-requires : tie.Need-flags-at-requires
+flags-at-requires c κs = valid-ranges _ _ (c .before .before .pre .0) .letters
 
 add-end : tie.Need-add-end
 add-end c =
@@ -22,18 +22,18 @@ part-write-returns-end c = omega (arith, file-seen _ _ (c .before .before .befor
 write-returns-requires : tie.Need-write-returns-requires
 write-returns-requires c κs =
     let s = c .before .before .before .before .before .before in
-    (simp (length-take, length-drop) (omega (arith, s .pre .1)), s .pre .2, s .pre .3, rw (lent-finals _ _ (s .pre .0)) at (s .pre .4))
+    (simp (length-take, length-drop) (omega (arith, s .pre .1)), s .pre .2, s .pre .3, rw (lent-finals _ _ (s .pre .0), ← c .before .before .before .flags-at .ensures) at (s .pre .4))
 
 returns : tie.Need-returns
 returns c =
     let s = c .before .before .before .before .before .before .before .before .before in
-    rw (lent-finals _ _ (s .pre .0)) (c .before .before .write-returns .ensures)
+    rw (lent-finals _ _ (s .pre .0), ← c .before .before .before .before .before .before .flags-at .ensures) (c .before .before .write-returns .ensures)
 
 pub write-final-arcs-spec : {M : Type 1} → statement M
 write-final-arcs-spec =
     tie.close
     (tie.spec
-    add-flags
+    flags-at-requires
     add-end
     (λ c. search needs)
     (λ c. search needs)

@@ -9,7 +9,7 @@ use Rattle.format.specs.Decoding.{letterOf}
 use Rattle.file_writing.proofs.Laws.{Left, left-all, left-fits, left-less, left-none}
 use Rattle.file_arc_writing.proofs.Laws.{arc-length}
 use Rattle.join_parts.proofs.finals.write_returns.Statement.{statement}
-use Rattle.join_parts.proofs.FinalLaws.{final-here, final-none, finalFrom, returning, final-not}
+use Rattle.join_parts.proofs.FinalFlags.{final-here, final-none, finalFrom, returning, final-not}
 use Rattle.join_parts.proofs.finals.write_returns.Tie as tie
 
 abbrev Inv-loop : tie.InvT-loop

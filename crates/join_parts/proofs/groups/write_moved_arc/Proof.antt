@@ -7,7 +7,7 @@ use lib.Seq.{getD-drop}
 use Rattle.automata.proofs.Laws.{at}
 use Rattle.file_fields.proofs.Laws.{tail}
 use Rattle.join_parts.proofs.groups.write_moved_arc.Statement.{statement}
-use Rattle.join_parts.proofs.Walking.{arc-at}
+use Rattle.join_parts.proofs.ArcWalk.{arc-at}
 use Rattle.join_parts.proofs.groups.write_moved_arc.Tie as tie
 
 write-arc-requires : tie.Need-write-arc-requires

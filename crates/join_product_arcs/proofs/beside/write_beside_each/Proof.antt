@@ -8,8 +8,8 @@ use Rattle.automata.specs.Lists.{countFrom}
 use Rattle.format.specs.Decoding.{arcOf}
 use Rattle.format.specs.Encoding.{arcBytes, arcsBytes}
 use Rattle.file_writing.proofs.Laws.{Left, left-all, left-fits, left-less, left-none}
-use Rattle.join_product_arcs.specs.Writing.{besideArc}
-use Rattle.join_product_arcs.proofs.Besides.{beside-next, beside-none, beside-length}
+use Rattle.join_product_arcs.specs.JointArcs.{besideArc}
+use Rattle.join_product_arcs.proofs.BesideArcs.{beside-next, beside-none, beside-length}
 use Rattle.join_product_arcs.proofs.beside.write_beside_each.Statement.{statement}
 use Rattle.join_product_arcs.proofs.beside.write_beside_each.Tie as tie
 

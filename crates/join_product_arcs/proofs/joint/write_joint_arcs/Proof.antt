@@ -10,58 +10,55 @@ use Rattle.format.specs.Encoding.{arcsBytes}
 use Rattle.file_laws.proofs.Laws.{valid-arcs, valid-ranges}
 use Rattle.file_writing.proofs.Laws.{Left, arcs-append, left-all, left-fits, left-less, left-none}
 use Rattle.join_parts.proofs.Laws.{ArcHere, Walk, walk-here, walk-on, walk-start}
-use Rattle.join_product_count.specs.Pairing.{jointWith}
+use Rattle.join_product_count.specs.ProductArcs.{jointWith}
 use Rattle.join_product_count.proofs.Laws.{flat-next, flat-none}
-use Rattle.join_product_arcs.proofs.Numbering.{row-below}
+use Rattle.join_product_arcs.proofs.PairNumber.{row-below}
 use Rattle.join_product_arcs.proofs.joint.write_joint_arcs.Statement.{statement}
 use Rattle.join_product_arcs.proofs.joint.write_joint_arcs.Tie as tie
 
 abbrev Inv-loop : tie.InvT-loop
-Inv-loop out₀ at a first b second k to₀ from₀ i₀ out to from i = (i ≤ a .arcs) × Walk a first (a .arcs - i) from × Left at (arcsBytes (flatMap (jointWith (b .states) k (automatonOf second .arcs)) (arcsOf (a .arcs) (drop from₀ first)))) out₀ to (arcsBytes (flatMap (jointWith (b .states) k (automatonOf second .arcs)) (arcsOf (a .arcs - i) (drop from first)))) out
+Inv-loop out₀ at a first b second k to₀ from₀ i₀ out to from i = (i ≤ a .arcs) × Walk a first (a .arcs - i) from × Left at (arcsBytes (flatMap (jointWith (b .states) k (automatonOf second .arcs)) (arcsOf (a .arcs) (drop (firstArc a) first)))) out₀ to (arcsBytes (flatMap (jointWith (b .states) k (automatonOf second .arcs)) (arcsOf (a .arcs - i) (drop from first)))) out
 
 abbrev μ-loop : tie.MeasureT-loop
 μ-loop out₀ at a first b second k to₀ from₀ i₀ out to from i = a .arcs - i
 
 -- the arc of this turn, and what is left to write
-here : (c : tie.Then1 Inv-loop μ-loop) → let l = c .before .before in let a = l .before .before .before .before .before .before .args in ArcHere (a .a) (a .first .now) (l .loop .from)
+here : (c : tie.Then1 Inv-loop μ-loop) → let l = c .before .before in let a = l .before .before .before .before .before .args in ArcHere (a .a) (a .first .now) (l .loop .from)
 here c =
     let l = c .before .before in
-    let a = l .before .before .before .before .before .before .args in
+    let a = l .before .before .before .before .before .args in
     walk-here (a .a) (a .first .now) (a .a .arcs) (l .loop .i) (l .loop .from) (c .if1 .taken) (l .loop .inv .1)
 
-turn : (c : tie.Then1 Inv-loop μ-loop) → let l = c .before .before in let a = l .before .before .before .before .before .before .args in let g = jointWith (a .b .states) (a .k) (automatonOf (a .second .now) .arcs) in let arc = drop (l .loop .from) (a .first .now) in
+turn : (c : tie.Then1 Inv-loop μ-loop) → let l = c .before .before in let a = l .before .before .before .before .before .args in let g = jointWith (a .b .states) (a .k) (automatonOf (a .second .now) .arcs) in let arc = drop (l .loop .from) (a .first .now) in
     Left (a .at) (arcsBytes (flatMap g (arcsOf (a .a .arcs) (drop (firstArc (a .a)) (a .first .now))))) (a .out .now) (l .loop .to)
     (arcsBytes (g (arcOf arc)) ++ arcsBytes (flatMap g (arcsOf (a .a .arcs - (l .loop .i + 1)) (drop (l .loop .from + arcSize arc) (a .first .now))))) (l .loop .out)
 turn c =
     let l = c .before .before in
-    let a = l .before .before .before .before .before .before .args in
+    let a = l .before .before .before .before .before .args in
     let first = a .first .now in
     let g = jointWith (a .b .states) (a .k) (automatonOf (a .second .now) .arcs) in
     let arc = drop (l .loop .from) first in
     let m = a .a .arcs in
     rw (flat-next g (a .a) first m (l .loop .i) (l .loop .from) (c .if1 .taken), arcs-append (g (arcOf arc)) (flatMap g (arcsOf (m - (l .loop .i + 1)) (drop (l .loop .from + arcSize arc) first)))) at (l .loop .inv .2)
 
-add-from : tie.Need-add-from Inv-loop μ-loop
-add-from c = omega (arith, valid-ranges _ _ (c .before .before .before .before .pre .0) .letters)
-
-add-from-2 : tie.Need-add-from-2 Inv-loop μ-loop
-add-from-2 c =
-    let r = valid-ranges _ _ (c .before .before .before .before .before .pre .0) in
-    omega (arith, r .letters, r .states)
+first-arc-requires : tie.Need-first-arc-requires Inv-loop μ-loop
+first-arc-requires c κs =
+    let r = valid-ranges _ _ (c .before .before .before .pre .0) in
+    (r .letters, omega (arith, r .states))
 
 loop-holds : tie.Need-loop-holds Inv-loop μ-loop
 loop-holds c =
-    let s = c .before .before .before .before .before in
+    let s = c .before .before .before .before in
     let m = s .args .a .arcs in
     let e : m - 0 ≡ m = omega arith in
-    (omega arith, rw e (walk-start _ _ (s .pre .0)), rw e (left-all (rw (valid-arcs _ _ (s .pre .0)) at (s .pre .4))))
+    (omega arith, rw (e, c .first-arc .ensures) (walk-start _ _ (s .pre .0)), rw (e, c .first-arc .ensures) (left-all (rw (valid-arcs _ _ (s .pre .0)) at (s .pre .4))))
 
 write-joint-with-requires : tie.Need-write-joint-with-requires Inv-loop μ-loop
 write-joint-with-requires c κs =
     let t = c .before in
     let h = here t in
     let l = t .before .before in
-    let s = l .before .before .before .before .before .before in
+    let s = l .before .before .before .before .before in
     let a = s .args in
     let x = arcOf (drop (l .loop .from) (a .first .now)) in (
       h .whole,
@@ -76,15 +73,15 @@ write-joint-with-requires c κs =
 arc-size-requires : tie.Need-arc-size-requires Inv-loop μ-loop
 arc-size-requires c κs = omega (arith, here (c .before .before .before .before) .whole)
 
-add-from-3 : tie.Need-add-from-3 Inv-loop μ-loop
-add-from-3 c = omega (arith, here (c .before .before .before .before .before) .whole, c .arc-size .ensures .0)
+add-from : tie.Need-add-from Inv-loop μ-loop
+add-from c = omega (arith, here (c .before .before .before .before .before) .whole, c .arc-size .ensures .0)
 
 loop-again : tie.Need-loop-again Inv-loop μ-loop
 loop-again c =
     let w = c .before .before .before in
     let t = w .before .before in
     let l = t .before .before in
-    let a = l .before .before .before .before .before .before .args in (
+    let a = l .before .before .before .before .before .args in (
       omega arith,
       rw (c .arc-size .ensures .0) (walk-on (a .a) (a .first .now) (a .a .arcs) (l .loop .i) (l .loop .from) (t .if1 .taken) (l .loop .inv .1)),
       rw (c .arc-size .ensures .0) (left-less _ (turn t) (w .write-joint-with .ensures)),
@@ -97,7 +94,7 @@ returns : tie.Need-returns Inv-loop μ-loop
 unfolding arcsBytes
 returns c =
     let l = c .before .before in
-    let s = l .before .before .before .before .before .before in
+    let s = l .before .before .before .before .before in
     let a = s .args in
     rw (valid-arcs _ _ (s .pre .0)) (left-none (rw (flat-none (jointWith (a .b .states) (a .k) (automatonOf (a .second .now) .arcs)) (a .a) (a .first .now) (a .a .arcs) (l .loop .i) (l .loop .from) (c .if1 .left)) at (l .loop .inv .2)))
 
@@ -107,12 +104,11 @@ write-joint-arcs-spec =
     (tie.spec
     Inv-loop
     μ-loop
-    add-from
-    add-from-2
+    first-arc-requires
     loop-holds
     write-joint-with-requires
     arc-size-requires
-    add-from-3
+    add-from
     (λ c. omega arith)
     (λ c. omega arith)
     loop-again

@@ -10,7 +10,7 @@ use Rattle.table_configurations.specs.declared.Explored.the-variants.{Tables, T
 use Rattle.table_configurations.proofs.Laws.{placed-kept}
 use Rattle.table_operations.proofs.Laws.{indexed-kept, linked-kept}
 use Rattle.format.specs.Decoding.{decoded}
-use Rattle.table.proofs.Accepting.{builds-tables}
+use Rattle.table.proofs.ReadyLaws.{builds-tables}
 use Rattle.table.proofs.block.build.Statement.{statement}
 use Rattle.table.proofs.block.build.Tie as tie
 

@@ -1,11 +1,11 @@
 -- `table::file_steps::step_file` meets its contract. The loop's invariant: the live configurations below c have been visited (Stepping of
--- proofs/Onward.antt). The measure is how far c is from 256.
+-- crate table_sets). The measure is how far c is from 256.
 use Prim.Native.Nat.{_-_}
 use native.Mathlib.Omega.{arith}
 use Rattle.table_operations.proofs.Laws.{indexed-kept, linked-kept}
 use Rattle.table.specs.FileSteps.{FromFile}
 use Rattle.table_sets.proofs.Laws.{Stepping, room-kept, stepped, stepping-more, stepping-start}
-use Rattle.table.proofs.FileVisits.{findable-kept, from-kept, map-kept}
+use Rattle.table.proofs.VisitFile.{findable-kept, from-kept, map-kept}
 use Rattle.table.proofs.file_steps.step_file.Statement.{statement}
 use Rattle.table.proofs.file_steps.step_file.Tie as tie
 

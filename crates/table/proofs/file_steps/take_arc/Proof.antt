@@ -2,18 +2,14 @@
 -- joins; or nothing joins.
 use borrow.Author.Needs.{needs}
 use mathlib.Core.Path.{_≡_, _∙_, ap, subst, sym}
-use Prim.Native.Nat.{ℕ, _*_, _%_, _+_, _^_, _<_}
+use Prim.Native.Nat.{ℕ, _*_, _+_, _^_}
 use native.Mathlib.Omega.{arith}
-use lib.Pow.{shl-exact}
 use Rattle.table_operations.specs.Packed.{Fitting}
 use Rattle.table_operations.specs.declared.Outcome.the-variants.{Failed, Leaves}
 use Rattle.word_fields.proofs.Laws.{kept-same, kept-wider}
-use Rattle.table.proofs.FileVisits.{leads-none, leads-one, not-taken, taken}
+use Rattle.table.proofs.VisitFile.{leads-none, leads-one, not-taken, taken}
 use Rattle.table.proofs.file_steps.take_arc.Statement.{statement}
 use Rattle.table.proofs.file_steps.take_arc.Tie as tie
-
-up : (t : ℕ) → t < 256 → t * 4294967296 % 18446744073709551616 ≡ t * 2 ^ 32
-up t h = shl-exact 8 32 64 h (omega arith)
 
 -- it has no letter
 returns : tie.Need-returns
@@ -29,8 +25,8 @@ returns-2 c =
           (λ p j h q. let e : Failed ≡ Leaves (q .regs) = sym (c .enum-told .given .1) ∙ o .pass .ensures .0 ∙ q .outcome in let z : _≡_ {A = ℕ} 0 1 = cc in omega arith),
     )
 
-add-key : tie.Need-add-key
-add-key c = let r = c .before .before in let o = r .before .before in omega (arith, subst Fitting (r .regs .given .1) (o .pass .ensures .1), up (c .byte2 .result) (c .byte2 .ensures .1), c .byte2 .ensures .1)
+configuration-requires : tie.Need-configuration-requires
+configuration-requires c κs = let r = c .before .before in let o = r .before .before in (c .byte2 .ensures .1, subst Fitting (r .regs .given .1) (o .pass .ensures .1))
 
 -- its target is found
 returns-3 : tie.Need-returns-3
@@ -38,7 +34,8 @@ returns-3 c =
     let i = c .before .before in
     let t = i .before .before in
     let f = t .before in
-    let k = f .before .before in
+    let n = f .before .before in
+    let k = n .before in
     let r = k .before .before in
     let o = r .before .before in
     let e = o .before in
@@ -48,7 +45,7 @@ returns-3 c =
       kept-wider (omega arith) (omega (arith, e .if1 .left)) (i .into .ensures .0),
       taken (a .file .now) (a .at) (a .own) (a .w .now) (a .base) (a .known) (i .into .last .0) (a .acc) (a .met) (i .into .result) (b .byte .result) (f .find-word .result) (i .into .ensures .1)
           (leads-one (a .file .now) (a .at) (a .own) (a .w .now) (a .base) (a .known) (b .byte .ensures .0) (sym (o .pass .ensures .0) ∙ r .regs .given .1)
-          (ap (λ (x : ℕ). r .regs .given .0 .0 + x) (up (k .byte2 .result) (k .byte2 .ensures .1) ∙ ap (λ (x : ℕ). x * 2 ^ 32) (k .byte2 .ensures .0)))
+          (n .configuration .ensures ∙ ap (λ (x : ℕ). r .regs .given .0 .0 + x * 2 ^ 32) (k .byte2 .ensures .0))
           (f .find-word .ensures) (s .pre .1 .1 .1) (t .if2 .taken)),
     )
 
@@ -56,7 +53,8 @@ returns-3 c =
 returns-4 : tie.Need-returns-4
 returns-4 c =
     let f = c .before in
-    let k = f .before .before in
+    let n = f .before .before in
+    let k = n .before in
     let r = k .before .before in
     let o = r .before .before in
     let b = o .before .before in
@@ -64,7 +62,7 @@ returns-4 c =
       kept-same _ _ _,
       not-taken (a .file .now) (a .at) (a .own) (a .w .now) (a .base) (a .known) (a .acc) (a .met)
           (leads-none (a .file .now) (a .at) (a .own) (a .w .now) (a .base) (a .known) (b .byte .ensures .0) (sym (o .pass .ensures .0) ∙ r .regs .given .1)
-          (ap (λ (x : ℕ). r .regs .given .0 .0 + x) (up (k .byte2 .result) (k .byte2 .ensures .1) ∙ ap (λ (x : ℕ). x * 2 ^ 32) (k .byte2 .ensures .0)))
+          (n .configuration .ensures ∙ ap (λ (x : ℕ). r .regs .given .0 .0 + x * 2 ^ 32) (k .byte2 .ensures .0))
           (f .find-word .ensures) (c .if2 .left)),
     )
 
@@ -81,7 +79,7 @@ take-arc-spec =
     returns-2
     (λ c. search needs)
     (λ c κs. search needs)
-    add-key
+    configuration-requires
     (λ c κs. search needs)
     (λ c κs. search needs)
     (λ c. search needs)

@@ -3,7 +3,7 @@
 use Prim.Native.Nat.{_+_, _%_}
 use native.Mathlib.Omega.{arith}
 use Rattle.table_sets.proofs.Laws.{room-kept}
-use Rattle.table.proofs.FileVisits.{Following, arc-here, findable-kept, following-end, following-less, following-more, following-start, map-kept}
+use Rattle.table.proofs.VisitFile.{Following, arc-here, findable-kept, following-end, following-less, following-more, following-start, map-kept}
 use Rattle.table.proofs.file_steps.visit_file.Statement.{statement}
 use Rattle.table.proofs.file_steps.visit_file.Tie as tie
 
@@ -18,17 +18,17 @@ slice-read-own c = let s = c .before .before .before in omega (arith, s .pre .1 
 
 -- the state of configuration c is below 256
 get16-requires : tie.Need-get16-requires Inv-loop μ-loop
-get16-requires c κs = let s = c .before .before .before .before in omega (arith, s .pre .1 .1 .1 .1 .configured .small (s .args .c) (s .pre .1 .0), s .pre .1 .1 .0, s .pre .1 .1 .1 .0 .rows)
+get16-requires c κs = let s = c .before .before .before .before .before in omega (arith, c .state-of .ensures, s .pre .1 .1 .1 .1 .configured .small (s .args .c) (s .pre .1 .0), s .pre .1 .1 .0, s .pre .1 .1 .1 .0 .rows)
 
 loop-holds : tie.Need-loop-holds Inv-loop μ-loop
 loop-holds c =
-    let s = c .before .before .before .before .before in
-    following-start _ _ _ _ _ (s .pre .0 .1 .0) (s .pre .0 .1 .1) (omega (arith, s .pre .1 .1 .1 .1 .configured .small (s .args .c) (s .pre .1 .0))) (c .get16 .ensures .0)
+    let s = c .before .before .before .before .before .before in
+    following-start _ _ _ _ _ (s .pre .0 .1 .0) (s .pre .0 .1 .1) (omega (arith, s .pre .1 .1 .1 .1 .configured .small (s .args .c) (s .pre .1 .0))) (rw (c .before .state-of .ensures) at (c .get16 .ensures .0))
 
 get16-requires-2 : tie.Need-get16-requires-2 Inv-loop μ-loop
 get16-requires-2 c κs =
     let l = c .before .before .before in
-    let s = l .before .before .before .before .before .before in
+    let s = l .before .before .before .before .before .before .before in
     omega (arith, l .loop .inv .kept .long, c .before .if1 .taken, s .pre .0 .0 .lies .few, s .pre .1 .1 .0, s .pre .1 .1 .1 .0 .rows)
 
 take-arc-requires : tie.Need-take-arc-requires Inv-loop μ-loop
@@ -36,7 +36,7 @@ take-arc-requires c κs =
     let g = c .before in
     let t = g .before .before in
     let l = t .before .before in
-    let s = l .before .before .before .before .before .before in
+    let s = l .before .before .before .before .before .before .before in
     let p = s .pre in
     let same = map-kept (p .1 .1 .0) (p .1 .1 .1 .0 .apart) (p .1 .1 .1 .1 .configured .few) (l .loop .inv .kept) in
     (arc-here (l .loop .inv) (p .0 .0) (p .0 .1 .0) (p .0 .1 .1) (p .1 .1 .0) (t .if1 .taken) (g .get162 .ensures .0), (p .1 .1 .0, (room-kept (same .block) (p .1 .1 .1 .0), findable-kept same (p .1 .1 .1 .1))))
@@ -46,7 +46,7 @@ get16-requires-3 c κs =
     let k = c .before .before .before in
     let t = k .before .before .before .before in
     let l = t .before .before in
-    let s = l .before .before .before .before .before .before in
+    let s = l .before .before .before .before .before .before .before in
     omega (arith, l .loop .inv .kept .long, k .take-arc .ensures .0 .long, t .if1 .taken, s .pre .0 .0 .lies .few, s .pre .1 .1 .0, s .pre .1 .1 .1 .0 .rows)
 
 loop-less : tie.Need-loop-less Inv-loop μ-loop
@@ -55,7 +55,7 @@ loop-less c =
     let g = k .before .before in
     let t = g .before .before in
     let l = t .before .before in
-    let p = l .before .before .before .before .before .before .pre in
+    let p = l .before .before .before .before .before .before .before .pre in
     following-less (l .loop .inv) (p .0 .0) (p .0 .1 .0) (p .0 .1 .1) (p .1 .1 .0) (t .if1 .taken) (g .get162 .ensures .0) (k .take-arc .ensures .0) (c .get163 .ensures .0)
 
 loop-again : tie.Need-loop-again Inv-loop μ-loop
@@ -64,7 +64,7 @@ loop-again c =
     let g = k .before .before in
     let t = g .before .before in
     let l = t .before .before in
-    let p = l .before .before .before .before .before .before .pre in
+    let p = l .before .before .before .before .before .before .before .pre in
     following-more (l .loop .inv) (p .0 .0) (p .0 .1 .0) (p .0 .1 .1) (p .1 .1 .0) (t .if1 .taken) (g .get162 .ensures .0) (k .take-arc .ensures .0) (c .get163 .ensures .0)
     (k .take-arc .result) (p .1 .1 .1 .0) (p .1 .1 .1 .1 .configured .few) (k .take-arc .ensures .1)
 
@@ -74,7 +74,7 @@ same-length c = c .before .before .loop .inv .kept .long
 returns : tie.Need-returns Inv-loop μ-loop
 returns c =
     let l = c .before .before in
-    let p = l .before .before .before .before .before .before .pre in
+    let p = l .before .before .before .before .before .before .before .pre in
     (l .loop .inv .kept, following-end (l .loop .inv) (p .0 .0) (p .0 .1 .0) (p .0 .1 .1) (p .1 .1 .0) (c .if1 .left))
 
 pub visit-file-spec : {M : Type 1} → statement M
@@ -86,6 +86,7 @@ visit-file-spec =
     (λ c. omega arith)
     (λ c. omega arith)
     slice-read-own
+    (λ c κs. tt)
     get16-requires
     loop-holds
     get16-requires-2

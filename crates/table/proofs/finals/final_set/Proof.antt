@@ -27,17 +27,18 @@ loop-holds : tie.Need-loop-holds Inv-loop μ-loop
 loop-holds c = (omega arith, sifted-start _ _ (c .empty .ensures))
 
 add-if1 : tie.Need-add-if1 Inv-loop μ-loop
-add-if1 c = let l = c .before .before in let s = l .before .before .before .before .before in omega (arith, s .pre .1 .1 .1 (l .loop .i) (c .before .loop-test .taken))
+add-if1 c = let l = c .before .before .before in let s = l .before .before .before .before .before in omega (arith, c .state-of .ensures, s .pre .1 .1 .1 (l .loop .i) (c .before .before .loop-test .taken))
 
 shared-slice-read-if1 : tie.Need-shared-slice-read-if1 Inv-loop μ-loop
-shared-slice-read-if1 c = let l = c .before .before .before in l .before .before .before .before .before .pre .1 .1 .1 (l .loop .i) (c .before .before .loop-test .taken)
+shared-slice-read-if1 c = let l = c .before .before .before .before in omega (arith, c .before .state-of .ensures, l .before .before .before .before .before .pre .1 .1 .1 (l .loop .i) (c .before .before .before .loop-test .taken))
 
 loop-again : tie.Need-loop-again Inv-loop μ-loop
 loop-again c =
-    let l = c .before .before .before .before in
+    let s = c .before .before in
+    let l = s .before .before .before in
     ⊎-elim
-    (λ t. rw (t .2) (omega arith, sifted-in (t .1 .result) (l .loop .inv .1) (eq-eqb _ _ (t .0 .taken)) (t .1 .ensures)))
-    (λ t. rw (t .1) (omega arith, sifted-out (l .loop .inv .1) (ne-eqb _ _ (t .0 .left))))
+    (λ t. rw (t .2) (omega arith, sifted-in (t .1 .result) (l .loop .inv .1) (rw (← s .state-of .ensures) (eq-eqb _ _ (t .0 .taken))) (t .1 .ensures)))
+    (λ t. rw (t .1) (omega arith, sifted-out (l .loop .inv .1) (rw (← s .state-of .ensures) (ne-eqb _ _ (t .0 .left)))))
     (c .if1 .came)
 
 returns : tie.Need-returns Inv-loop μ-loop
@@ -55,6 +56,7 @@ final-set-spec =
     (λ c. omega arith)
     (λ c. omega arith)
     (λ c. omega arith)
+    (λ c κs. tt)
     add-if1
     shared-slice-read-if1
     (λ c κs. omega arith)

@@ -13,10 +13,10 @@ use Rattle.word_fields.proofs.Laws.{kept-then, kept-wider}
 use Rattle.word_rows.specs.Rows.{row}
 use Rattle.table.specs.Membership.{judged}
 use Rattle.table.specs.declared.Membership.the-variants.{Accepted, Rejected}
-use Rattle.table.proofs.Building.{row-start, some-configuration, stored-kept}
+use Rattle.table.proofs.BuildBlock.{row-start, some-configuration, stored-kept}
 use Rattle.table.proofs.BuiltFrame.{built-kept}
-use Rattle.table.proofs.FileVisits.{SameMap, map-kept, steppable-kept}
-use Rattle.table.proofs.Judging.{judge-is, ready-finals, ready-flags}
+use Rattle.table.proofs.VisitFile.{SameMap, map-kept, steppable-kept}
+use Rattle.table.proofs.JudgeWord.{judge-is, ready-finals, ready-flags}
 use Rattle.table.proofs.words.judge_word.Statement.{statement}
 use Rattle.table.proofs.words.judge_word.Tie as tie
 

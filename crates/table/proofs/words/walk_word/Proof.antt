@@ -1,5 +1,5 @@
 -- `table::words::walk_word` meets its contract. The loop's invariant: what is left of the word leads from the set where the whole
--- word leads from the first one (Walking of proofs/WordSteps.antt).
+-- word leads from the first one (Walking of proofs/WalkWord.antt).
 use borrow.Author.Needs.{needs}
 use mathlib.Core.Path.{_∙_, _≡_, sym}
 use Prim.Native.Nat.{_-_}
@@ -11,9 +11,9 @@ use Rattle.file_fields.specs.Parts.{letterBytes}
 use Rattle.file_fields.specs.declared.letters.Letter.the-variants.{At}
 use Rattle.file_fields.proofs.Laws.{letters-length}
 use Rattle.table_letters.proofs.Laws.{lettered-kept}
-use Rattle.table.proofs.FileCovers.{built-outgoing}
-use Rattle.table.proofs.FileVisits.{map-kept, steppable-kept}
-use Rattle.table.proofs.WordSteps.{Walking, letter-lt, walking-end, walking-foreign, walking-more, walking-start}
+use Rattle.table.proofs.FileArcs.{built-outgoing}
+use Rattle.table.proofs.VisitFile.{map-kept, steppable-kept}
+use Rattle.table.proofs.WalkWord.{Walking, letter-lt, walking-end, walking-foreign, walking-more, walking-start}
 use Rattle.table.proofs.words.walk_word.Statement.{statement}
 use Rattle.table.proofs.words.walk_word.Tie as tie
 

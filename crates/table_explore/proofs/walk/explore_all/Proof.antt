@@ -16,8 +16,8 @@ use Rattle.table_configurations.specs.declared.Explored.the-variants.{Tables, T
 use Rattle.file_fields.specs.Parts.{firstArc}
 use Rattle.table_configurations.proofs.Laws.{placed-kept}
 use Rattle.table_operations.proofs.Laws.{indexed-kept, linked-kept}
-use Rattle.table_explore.proofs.Promise.{explores-all, explores-many}
-use Rattle.table_explore.proofs.Walking.{Noted, Walking, configured-noted, kept-noted, kept-walked, placed-noted, walking-more, walking-over, walking-start}
+use Rattle.table_explore.proofs.ExploredBlock.{explores-all, explores-many}
+use Rattle.table_explore.proofs.ExploreAll.{Noted, Walking, configured-noted, kept-noted, kept-walked, placed-noted, walking-more, walking-over, walking-start}
 use Rattle.table_explore.proofs.walk.explore_all.Statement.{statement}
 use Rattle.table_explore.proofs.walk.explore_all.Tie as tie
 

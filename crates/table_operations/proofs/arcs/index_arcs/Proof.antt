@@ -2,7 +2,7 @@
 use native.Mathlib.Omega.{arith}
 use mathlib.Core.Path.{_≡_}
 use Prim.Native.Nat.{suc, _+_, _-_}
-use Rattle.table_operations.proofs.Places.{Indexing, first-arc, indexing-start, indexing-more, indexing-end, walkable-arcs}
+use Rattle.table_operations.proofs.ArcPlaces.{Indexing, first-arc, indexing-start, indexing-more, indexing-end, walkable-arcs}
 use Rattle.table_operations.proofs.arcs.index_arcs.Statement.{statement}
 use Rattle.table_operations.proofs.arcs.index_arcs.Tie as tie
 

@@ -5,8 +5,8 @@ use Prim.Native.Nat.{ℕ, _-_}
 use lib.ListN.{getD}
 use Rattle.word_layout.specs.Layout.{arcNexts, configs}
 use Rattle.word_fields.specs.Frame.{Kept}
-use Rattle.table_operations.proofs.Places.{entry-at}
-use Rattle.table_operations.proofs.Linking.{Linking, linking-start, linking-more, linking-end, place-kept}
+use Rattle.table_operations.proofs.ArcPlaces.{entry-at}
+use Rattle.table_operations.proofs.LinkArcs.{Linking, linking-start, linking-more, linking-end, place-kept}
 use Rattle.word_fields.proofs.Laws.{kept-then, kept-wider}
 use Rattle.table_operations.proofs.arcs.link_arcs.Statement.{statement}
 use Rattle.table_operations.proofs.arcs.link_arcs.Tie as tie

@@ -6,7 +6,7 @@ use mathlib.Core.Path.{_≡_, refl, sym, _∙_}
 use Prim.Native.Nat.{ℕ, _+_, _-_, _*_, _/_, _%_, _^_, _<_}
 use lib.Bits.{bitAnd}
 use Rattle.table_operations.specs.Packed.{actPacked, digit, digitPut}
-use Rattle.table_operations.proofs.Packing.{nib, shift-exact, digit-lt, digit-le, put-lt}
+use Rattle.table_operations.proofs.PackedWord.{nib, shift-exact, digit-lt, digit-le, put-lt}
 use Rattle.table_operations.proofs.operations.operate.Statement.{statement}
 use Rattle.table_operations.proofs.operations.operate.Tie as tie
 

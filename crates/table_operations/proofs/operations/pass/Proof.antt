@@ -3,8 +3,7 @@ use borrow.Author.Needs.{needs}
 use native.Mathlib.Omega.{arith}
 use mathlib.Core.Path.{sym}
 use Prim.Native.Nat.{_-_}
-use lib.Bits.{and-mask}
-use Rattle.table_operations.proofs.Performing.{Performing, next-ok, performing-start, performing-failed, performing-more, performing-end}
+use Rattle.table_operations.proofs.OperationLoop.{Performing, next-ok, performing-start, performing-failed, performing-more, performing-end}
 use Rattle.table_operations.proofs.operations.pass.Statement.{statement}
 use Rattle.table_operations.proofs.operations.pass.Tie as tie
 
@@ -16,8 +15,9 @@ abbrev μ-loop : tie.MeasureT-loop
 
 loop-holds : tie.Need-loop-holds Inv-loop μ-loop
 loop-holds c =
-    let s = c .before .before in
-    performing-start (s .args .file .now) (s .args .at) (c .byte .result) (s .args .own) _ (and-mask (s .args .own) 32) (rw (c .byte .ensures .0) (s .pre .ok))
+    let b = c .before in
+    let s = b .before .before in
+    performing-start (s .args .file .now) (s .args .at) (b .byte .result) (s .args .own) _ (c .contents-of .ensures) (rw (b .byte .ensures .0) (s .pre .ok))
 
 operate-at-requires : tie.Need-operate-at-requires Inv-loop μ-loop
 operate-at-requires c κs =
@@ -27,7 +27,7 @@ operate-at-requires c κs =
 returns : tie.Need-returns Inv-loop μ-loop
 returns c =
     let o = c .before .before in
-    let b = o .before .before .before .byte in
+    let b = o .before .before .before .before .byte in
     (sym (rw (← b .ensures .0) (performing-failed _ _ _ _ (o .before .loop-test .taken) (o .before .before .loop .inv) (o .operate-at .ensures .0) (c .enum-told .given .1))), tt)
 
 loop-again : tie.Need-loop-again Inv-loop μ-loop
@@ -37,7 +37,7 @@ loop-again c =
 
 returns-2 : tie.Need-returns-2 Inv-loop μ-loop
 returns-2 c =
-    let b = c .before .before .byte in
+    let b = c .before .before .before .byte in
     (sym (rw (← b .ensures .0) (performing-end _ _ _ _ (c .loop-test .left) (c .before .loop .inv))), c .before .loop .inv .fits)
 
 pub pass-spec : {M : Type 1} → statement M
@@ -48,6 +48,7 @@ pass-spec =
     μ-loop
     (λ c. omega arith)
     (λ c κs. omega arith)
+    (λ c κs. tt)
     loop-holds
     (λ c. omega arith)
     (λ c. omega arith)

@@ -5,7 +5,7 @@ use Prim.Native.Nat.{_+_, _-_}
 use native.Mathlib.Omega.{arith}
 use Rattle.format.specs.Encoding.{flagByte}
 use Rattle.file_writing.proofs.Laws.{Left, left-all, left-fits, left-less, left-none}
-use Rattle.unfold.proofs.Counted.{counted-next, counted-none}
+use Rattle.unfold.proofs.CountedLists.{counted-next, counted-none}
 use Rattle.unfold.proofs.FlagBytes.{flagIn, flags-all, flags-length, flagsFrom}
 use Rattle.unfold.proofs.flags.write_flags.Statement.{statement}
 use Rattle.unfold.proofs.flags.write_flags.Tie as tie

@@ -1,25 +1,26 @@
--- `unfold::result::write_file` meets its contract: the parts, one behind the other, are the bytes of the unfolded automaton (Explored).
+-- `unfold::result::write_file` meets its contract: the parts, one behind the other, are the bytes of the unfolded automaton (ResultBytes).
 use Prim.Native.Nat.{_*_, _+_, _≤_}
 use native.Mathlib.Omega.{arith}
 use borrow.Author.Needs.{needs}
 use lib.ListN.{length}
 use Rattle.file_laws.proofs.Laws.{valid-ranges}
 use Rattle.file_writing.proofs.Laws.{appended-length, front-ends, written-then}
-use Rattle.unfold.proofs.Explored.{arcs-length, flags-size, flags-there, known, result-length, result-parts, some-known, starts-are}
+use Rattle.table.proofs.Laws.{holds-end, holds-room, holds-valid}
+use Rattle.unfold.proofs.ResultBytes.{arcs-length, count-few, count-some, flags-size, result-length, result-parts}
 use Rattle.unfold.proofs.result.write_file.Statement.{statement}
 use Rattle.unfold.proofs.result.write_file.Tie as tie
 
 -- there is room for the parts
-room : (s : tie.Start) → 12 + s .args .c .letters + s .args .known + 6 * s .args .plain ≤ length (s .args .out .now)
-room s = let p = s .pre in omega (arith, result-length _ _ (p .0 .0) (p .0 .2), p .1 .1)
+room : (s : tie.Start) → 12 + s .args .c .letters + s .args .block .count + 6 * s .args .block .plain ≤ length (s .args .out .now)
+room s = let p = s .pre in omega (arith, result-length (p .0), p .1 .1)
 
 write-front-requires : tie.Need-write-front-requires
 write-front-requires c κs =
     let s = c .before .before .before .before in
     let p = s .pre in
-    let r = valid-ranges _ _ (p .0 .0) in
-    let n = some-known _ _ (p .0 .0) (p .0 .2) in
-    let k = known _ _ (p .0 .0) (p .0 .2) .few in (
+    let r = valid-ranges _ _ (holds-valid (p .0)) in
+    let n = count-some (p .0) in
+    let k = count-few (p .0) in (
       record {
         letters = omega arith;
         some-state = omega arith;
@@ -30,23 +31,16 @@ write-front-requires c κs =
         symbols = omega arith;
         arcs = omega arith;
       },
-      p .0 .0,
+      holds-valid (p .0),
       omega (arith, room s),
     )
-
-final-set-requires : tie.Need-final-set-requires
-final-set-requires c κs =
-    let s = c .before .before .before .before .before .before .before in
-    let p = s .pre in
-    let few = known _ _ (p .0 .0) (p .0 .2) .few in
-    (few, (valid-ranges _ _ (p .0 .0) .letters, (omega (arith, few, p .0 .1 .above, p .0 .1 .block), flags-there _ _ (p .0 .0) (p .0 .2))))
 
 write-flags-requires : tie.Need-write-flags-requires
 write-flags-requires c κs =
     let front = c .before .before .before .before in
     let s = front .before .before .before .before .before in
     let p = s .pre in
-    (known _ _ (p .0 .0) (p .0 .2) .few, omega (arith, room s, front-ends _ _ (p .0 .0) _ (front .write-front .ensures)))
+    (count-few (p .0), omega (arith, room s, front-ends _ _ (holds-valid (p .0)) _ (front .write-front .ensures)))
 
 write-arcs-requires : tie.Need-write-arcs-requires
 write-arcs-requires c κs =
@@ -56,9 +50,10 @@ write-arcs-requires c κs =
     let s = front .before .before .before .before .before in
     let p = s .pre in
     let at = flags .write-flags .ensures .behind in (
-      starts-are _ _ (p .0 .0) (p .0 .2) (p .1 .0),
-      p .0 .1 .block,
-      omega (arith, room s, front-ends _ _ (p .0 .0) _ (front .write-front .ensures), at, flags-size (s .args .known) (set .final-set .result), appended-length (flags .write-flags .ensures), arcs-length _ _ (p .0 .0) (p .0 .2) (p .1 .0)),
+      count-few (p .0),
+      holds-room (p .0),
+      holds-end (p .0) (p .1 .0),
+      omega (arith, room s, front-ends _ _ (holds-valid (p .0)) _ (front .write-front .ensures), at, flags-size (s .args .block .count) (set .final-configurations .result), appended-length (flags .write-flags .ensures), arcs-length (p .0) (p .1 .0)),
     )
 
 returns : tie.Need-returns
@@ -69,7 +64,7 @@ returns c =
     let front = set .before .before .before in
     let s = front .before .before .before .before .before in
     let p = s .pre in
-    rw (result-parts _ _ (p .0 .0) (p .0 .2) (p .1 .0) (set .final-set .result) (set .final-set .ensures))
+    rw (result-parts (p .0) (p .1 .0) (set .final-configurations .result) (set .final-configurations .ensures))
     (written-then (front .write-front .ensures) (written-then (flags .write-flags .ensures) (arcs .write-arcs .ensures)))
 
 pub write-file-spec : {M : Type 1} → statement M
@@ -77,7 +72,7 @@ write-file-spec =
     tie.close
     (tie.spec
     write-front-requires
-    final-set-requires
+    (λ c κs. c .before .before .before .before .before .before .before .pre .0)
     write-flags-requires
     write-arcs-requires
     (λ c. search needs)

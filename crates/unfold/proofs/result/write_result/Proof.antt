@@ -7,49 +7,50 @@ use Rattle.format.specs.Decoding.{automatonOf}
 use Rattle.file_laws.proofs.Laws.{valid-ranges}
 use Rattle.file_writing.specs.declared.Written.the-variants.{Bytes}
 use Rattle.file_writing.proofs.Laws.{file-written}
-use Rattle.unfold.proofs.Answering.{result-bytes, result-many, result-short}
-use Rattle.unfold.proofs.Explored.{known, result-length}
+use Rattle.unfold.proofs.AnswerLaws.{result-bytes, result-many, result-short}
+use Rattle.table.proofs.Laws.{holds-plain, holds-valid}
+use Rattle.unfold.proofs.ResultBytes.{count-few, result-length}
 use Rattle.unfold.proofs.result.write_result.Statement.{statement}
 use Rattle.unfold.proofs.result.write_result.Tie as tie
 
 returns : tie.Need-returns
 returns c =
-    let s = c .before .before .before .before in
+    let s = c .before .before .before .before .before in
     let p = s .pre in
-    (result-many 256 2048 (automatonOf (s .args .file .now)) (length (s .args .out .now)) (omega (arith, c .if1 .taken, known _ _ (p .0) (p .2) .plain)), refl)
+    (result-many 256 2048 (automatonOf (s .args .file .now)) (length (s .args .out .now)) (omega (arith, c .if1 .taken, holds-plain p)), refl)
 
 add-size : tie.Need-add-size
-add-size c = let p = c .before .before .before .before .before .pre in omega (arith, valid-ranges _ _ (p .0) .letters)
+add-size c = let p = c .before .before .before .before .before .before .pre in omega (arith, valid-ranges _ _ (holds-valid p) .letters)
 
 add-size-2 : tie.Need-add-size-2
-add-size-2 c = let p = c .before .before .before .before .before .pre in omega (arith, valid-ranges _ _ (p .0) .letters, known _ _ (p .0) (p .2) .few)
+add-size-2 c = let p = c .before .before .before .before .before .before .before .pre in omega (arith, valid-ranges _ _ (holds-valid p) .letters, count-few p)
 
 add-size-3 : tie.Need-add-size-3
-add-size-3 c = let p = c .before .before .before .before .before .pre in omega (arith, valid-ranges _ _ (p .0) .letters, known _ _ (p .0) (p .2) .few)
+add-size-3 c = let p = c .before .before .before .before .before .before .before .before .pre in omega (arith, valid-ranges _ _ (holds-valid p) .letters, count-few p)
 
 returns-2 : tie.Need-returns-2
 returns-2 c =
-    let one = c .before .before in
-    let s = one .before .before .before .before in
+    let one = c .before .before .before .before in
+    let s = one .before .before .before .before .before in
     let p = s .pre in
-    (result-short 256 2048 (automatonOf (s .args .file .now)) (length (s .args .out .now)) (omega (arith, one .if1 .left, known _ _ (p .0) (p .2) .plain)) (omega (arith, c .if2 .taken, result-length _ _ (p .0) (p .2))), refl)
+    (result-short 256 2048 (automatonOf (s .args .file .now)) (length (s .args .out .now)) (omega (arith, one .if1 .left, holds-plain p)) (omega (arith, c .if2 .taken, result-length p)), refl)
 
 write-file-requires : tie.Need-write-file-requires
 write-file-requires c κs =
     let two = c .before in
-    let one = two .before .before in
-    let p = one .before .before .before .before .pre in
-    (p, (one .if1 .left, omega (arith, two .if2 .left, result-length _ _ (p .0) (p .2))))
+    let one = two .before .before .before .before in
+    let p = one .before .before .before .before .before .pre in
+    (p, (one .if1 .left, omega (arith, two .if2 .left, result-length p)))
 
 returns-3 : tie.Need-returns-3
 returns-3 c =
     let w = c .before .before in
     let two = w .before .before in
-    let one = two .before .before in
-    let s = one .before .before .before .before in
+    let one = two .before .before .before .before in
+    let s = one .before .before .before .before .before in
     let p = s .pre in
-    let e = result-length _ _ (p .0) (p .2) in (
-      ap Bytes (sym e) ∙ result-bytes 256 2048 (automatonOf (s .args .file .now)) (length (s .args .out .now)) (omega (arith, one .if1 .left, known _ _ (p .0) (p .2) .plain)) (omega (arith, two .if2 .left, e)),
+    let e = result-length p in (
+      ap Bytes (sym e) ∙ result-bytes 256 2048 (automatonOf (s .args .file .now)) (length (s .args .out .now)) (omega (arith, one .if1 .left, holds-plain p)) (omega (arith, two .if2 .left, e)),
       file-written (w .write-file .ensures),
     )
 

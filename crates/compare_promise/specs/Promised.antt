@@ -1,0 +1,87 @@
+-- Promised: what is promised of comparing (demand 3, and the exact condition of each refusal). Words, languages and configurations are
+-- those of runs; plain arcs (22) and pairs of live sets (23 and the count) are document 01's, over numbered configurations, and `paired`
+-- says by runs what one pair is. Nothing here is the contract's but `Told`: a contract that says less does not give this promise.
+use mathlib.Core.Path.{_≡_}
+use mathlib.Core.Logic.{_↔_, _⊎_, _≢_}
+use mathlib.Core.List.{List, [], _∷_}
+use Prim.Native.Nat.{ℕ, _≤_, _<_}
+use lib.Dec.{T}
+use lib.ListN.{drop, length, take}
+use Rattle.automata.specs.Automaton.{Automaton, Configuration, Produces, Reachable, Run, start}
+use Rattle.automata.specs.Counting.{Exactly, MoreThan}
+use Rattle.automata.specs.Pairs.{SomePair, pairOf}
+use Rattle.automata.specs.Unfolding.{plainArcs}
+use Rattle.automata.specs.Words.{Language}
+use Rattle.format.specs.Decoding.{automatonOf}
+use Rattle.format.specs.Refusals.{FirstHolds, faultOf}
+use Rattle.compare_promise.specs.Comparing.{Told}
+
+-- ---- document 01's refusals in their order: a condition, the number, and the automaton at fault
+abbrev pub tableConditions : Automaton → Automaton → List (Type 0 × ℕ × ℕ)
+tableConditions x y =
+    (MoreThan (Reachable x) 256, 21, 1)
+    ∷ (2048 < length (plainArcs x 256), 22, 1)
+    ∷ (MoreThan (Reachable y) 256, 21, 2)
+    ∷ (2048 < length (plainArcs y 256), 22, 2)
+    ∷ (MoreThan (SomePair x y 256) 512, 23, 0)
+    ∷ []
+
+abbrev pub conditions : (first second : List ℕ) (words buffer : ℕ) → List (Type 0 × ℕ × ℕ)
+conditions first second words buffer =
+    ((words < 8192) ⊎ (buffer < 512), 24, 0)
+    ∷ (0 < faultOf first, faultOf first, 1)
+    ∷ (0 < faultOf second, faultOf second, 2)
+    ∷ (automatonOf first .alphabet ≢ automatonOf second .alphabet, 10, 0)
+    ∷ tableConditions (automatonOf first) (automatonOf second)
+
+-- ---- demand 3
+-- its premises: both files are valid and list the same letters; each unfolds within 256 configurations and 2,048 plain arcs; words of
+-- those letters reach at most 512 different pairs of live sets; the lent memory has its stated size
+pub record Premises (first second : List ℕ) (words buffer : ℕ) : Type 0 where
+  pub enough-words : 8192 ≤ words
+  pub enough-bytes : 512 ≤ buffer
+  pub valid₁ : faultOf first ≡ 0
+  pub valid₂ : faultOf second ≡ 0
+  pub same-letters : automatonOf first .alphabet ≡ automatonOf second .alphabet
+  pub configurations₁ : ¬ MoreThan (Reachable (automatonOf first)) 256
+  pub arcs₁ : length (plainArcs (automatonOf first) 256) ≤ 2048
+  pub configurations₂ : ¬ MoreThan (Reachable (automatonOf second)) 256
+  pub arcs₂ : length (plainArcs (automatonOf second) 256) ≤ 2048
+  pub few-pairs : ¬ MoreThan (SomePair (automatonOf first) (automatonOf second) 256) 512
+
+-- every word of bytes, of every length, is accepted by both or by neither; a word with a byte that is no letter is accepted by neither
+abbrev pub Equivalent : Automaton → Automaton → Type 0
+Equivalent x y = (word : List ℕ) → Language x word ↔ Language y word
+
+-- one of two holds, and the other does not
+abbrev pub Either : Type 0 → Type 0 → Type 0
+Either A B = (A × ¬ B) ⊎ (B × ¬ A)
+
+-- the runs that spell v and those that spell w end in the same configurations
+abbrev pub SameEnds : Automaton → (v w : List ℕ) → Type 0
+SameEnds x v w = (c : Configuration) → Run (Produces x) (start x) v c ↔ Run (Produces x) (start x) w c
+
+-- what is promised of two files, a number of working words, the buffer lent, the buffer afterwards, and the answer as it is told
+pub record Promised (first second : List ℕ) (words : ℕ) (old new : List ℕ) (t : Told) : Type 0 where
+  -- nothing is refused just under the premises
+  pub answers : (t .number ≡ 0) ↔ Premises first second words (length old)
+  -- told the same just if the two are one rule, else told different
+  pub same : T (t .same) ↔ (Premises first second words (length old) × Equivalent (automatonOf first) (automatonOf second))
+  pub different : T (t .different) ↔ (Premises first second words (length old) × ¬ Equivalent (automatonOf first) (automatonOf second))
+  -- told different, exactly the named automaton accepts the word at the buffer's front
+  pub shows : T (t .different) → let word = take (t .size) new in
+      ((t .taker ≡ 1) × Language (automatonOf first) word × ¬ Language (automatonOf second) word)
+      ⊎ ((t .taker ≡ 2) × Language (automatonOf second) word × ¬ Language (automatonOf first) word)
+  -- and every word that exactly one accepts is at least as long
+  pub shortest : T (t .different) → (other : List ℕ) → Either (Language (automatonOf first) other) (Language (automatonOf second) other) → t .size ≤ length other
+  -- told either, the number is that of the distinct pairs of live sets over all words of the letters
+  pub counts : Premises first second words (length old) → Exactly (SomePair (automatonOf first) (automatonOf second) 256) (t .pairs)
+  -- two words have one pair just if runs that spell them end in the same configurations, in each of the two automata
+  pub paired : Premises first second words (length old) → (v w : List ℕ)
+      → (pairOf (automatonOf first) (automatonOf second) 256 v ≡ pairOf (automatonOf first) (automatonOf second) 256 w) ↔ (SameEnds (automatonOf first) v w × SameEnds (automatonOf second) v w)
+  -- each refusal has its number and its automaton at fault just where its condition is the first that holds; where none holds, both are 0
+  pub refuses : (n b : ℕ) → ((t .number ≡ n) × (t .at-fault ≡ b)) ↔ FirstHolds (conditions first second words (length old)) n b
+  -- the bytes behind the shown word are as they were lent; where none is shown, all are, its size being 0
+  pub behind : drop (t .size) new ≡ drop (t .size) old
+  pub none-shown : ¬ T (t .different) → t .size ≡ 0
+  pub whole : t .size ≤ length new

@@ -1,0 +1,3 @@
+-- Laws: the laws of this crate that crates above cite. A law that is not named here may change.
+-- two files that are to be joined or compared: what is known of them, and the refusals of a call behind theirs
+pub use Rattle.file_pair.proofs.PairLaws.{both-joinable, files-passed, files-refused}

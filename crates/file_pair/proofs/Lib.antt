@@ -1,0 +1,3 @@
+pub mod SameLists
+pub mod PairLaws
+pub mod Laws
