@@ -6,7 +6,7 @@
  * handed to it and writes only to the memory lent to it, so calls in different threads may run at the same time if they are lent
  * different memory. All memory belongs to the caller before, during and after a call. A pointer whose length is 0 may be null.
  * Memory that a call may write to must not overlap any other that it is handed.
- * Stack: at most 920 bytes were measured, in ra_compare, whatever the files.
+ * Stack: less than 1,000 bytes were measured in every call, the most in ra_compare, whatever the files.
  *
  * Every call comes back, on every input: a file may hold any bytes.
  *
@@ -17,9 +17,9 @@
  * and hold anything afterwards; nothing has to be cleared between calls.
  *
  * Answers. A struct is returned by value. Its field `number` is 0 where the call was not refused; else it is one of
- * enum ra_refusal, `automaton` is 1 or 2 for the automaton at fault (0 where neither is), and all other fields are 0. A refused
- * call leaves outputs and the buffer for the word exactly as they were lent. A call that was not refused leaves the bytes
- * behind its result as they were lent.
+ * enum ra_refusal, `automaton` is 1 or 2 for the automaton at fault (0 where neither is), and all other fields are 0, but that
+ * ra_read tells the place of the fault. A refused call leaves outputs and the buffer for the word exactly as they were lent. A
+ * call that was not refused leaves the bytes behind its result as they were lent.
  *
  * Where several refusals would be in place, the call answers the first in this order: RA_TOO_LITTLE_MEMORY_LENT; the first file's
  * fault (1 to 9, the first one that is met from left to right); the second file's fault; RA_LETTER_LISTS_DIFFER;
@@ -88,13 +88,14 @@ enum ra_refusal {
     RA_OUTPUT_TOO_SHORT = 25
 };
 
-/* What ra_read answers: the counts in the header of a valid file. */
+/* What ra_read answers: the counts in the header of a valid file, or its first fault and where that stands. */
 struct ra_reading {
     uint64_t letters;
     uint64_t states;
     uint64_t registers;
     uint64_t symbols;
     uint64_t arcs;
+    uint64_t place;     /* where the fault stands, in bytes from the file's start, at most file_length; 0 of a valid file */
     uint8_t number;     /* 0, or the file's fault: 1 to 9 */
     uint8_t automaton;  /* the automaton at fault: 1 where the file has a fault */
 };
@@ -123,7 +124,9 @@ struct ra_comparison {
     uint8_t taker;      /* 0: the two accept the same words; 1 or 2: only this one accepts the shown word */
 };
 
-/* Is the file valid? Answers the counts in its header, or its first fault, which is always that of the one file. */
+/* Is the file valid? Answers the counts in its header, or its first fault, which is always that of the one file, and its place: where
+ * the mark, the version, the count, the letter, the flag, the byte of an arc or the operation stands that is wrong; where the part
+ * begins that the file ends inside; where the bytes behind the last arc begin. */
 struct ra_reading ra_read(const uint8_t *file, size_t file_length);
 
 /* Does the automaton of the file accept the word? A word with a byte that is no letter isn't accepted, and leaves no

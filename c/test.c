@@ -142,6 +142,7 @@ static void expect_counts(const char *name, const uint8_t *file, size_t size, co
     struct ra_reading r = ra_read(file, size);
     expect("number", r.number, 0);
     expect("automaton at fault", r.automaton, 0);
+    expect("place", r.place, 0);
     expect("letters", r.letters, counts[0]);
     expect("states", r.states, counts[1]);
     expect("registers", r.registers, counts[2]);
@@ -149,11 +150,12 @@ static void expect_counts(const char *name, const uint8_t *file, size_t size, co
     expect("arcs", r.arcs, counts[4]);
 }
 
-static void expect_fault(const char *name, const uint8_t *file, size_t size, enum ra_refusal number) {
+static void expect_fault(const char *name, const uint8_t *file, size_t size, enum ra_refusal number, uint64_t place) {
     printf("ra_read of %s\n", name);
     struct ra_reading r = ra_read(file, size);
     expect("number", r.number, number);
     expect("automaton at fault", r.automaton, 1);
+    expect("place", r.place, place);
     expect("all counts together", r.letters + r.states + r.registers + r.symbols + r.arcs, 0);
 }
 
@@ -162,27 +164,28 @@ static void test_read(void) {
     expect_counts("V", V, sizeof V, (uint64_t[]){3, 3, 2, 3, 4});
     expect_counts("K", K, sizeof K, (uint64_t[]){1, 2, 2, 2, 1});
     expect_counts("S", S, sizeof S, (uint64_t[]){2, 2, 1, 1, 2});
-    expect_fault("no bytes, by a null pointer", NULL, 0, RA_ENDS_INSIDE_A_FIELD);
-    expect_fault("T without its last byte", T, sizeof T - 1, RA_ENDS_INSIDE_A_FIELD);
+    expect_fault("no bytes, by a null pointer", NULL, 0, RA_ENDS_INSIDE_A_FIELD, 0);
+    expect_fault("T without its last byte", T, sizeof T - 1, RA_ENDS_INSIDE_A_FIELD, sizeof T - 2);
 
     uint8_t damaged[sizeof T + 1];
-    const struct { const char *name; size_t at; uint8_t byte; enum ra_refusal number; } faults[] = {
-        {"T with another mark", 2, 'b', RA_MARK},
-        {"T of version 2", 3, 2, RA_VERSION},
-        {"T with 9 registers", 8, 9, RA_HEADER_COUNT},
-        {"T with the letters c c m", 13, 'c', RA_LETTERS_NOT_ASCENDING},
-        {"T with the final flag 02", 17, 2, RA_FINAL_FLAG},
-        {"T with an arc to state 3", 20, 3, RA_ARC_FIELD},
-        {"T with a write to register 0", 22, 0x10, RA_OPERATION},
+    const struct { const char *name; size_t at; uint8_t byte; enum ra_refusal number; uint64_t place; } faults[] = {
+        {"T with another mark", 2, 'b', RA_MARK, 0},
+        {"T of version 2", 3, 2, RA_VERSION, 3},
+        {"T with 9 registers", 8, 9, RA_HEADER_COUNT, 8},
+        {"T with the letters c c m", 13, 'c', RA_LETTERS_NOT_ASCENDING, 13},
+        {"T with the final flag 02", 17, 2, RA_FINAL_FLAG, 17},
+        {"T with an arc to state 3", 20, 3, RA_ARC_FIELD, 20},
+        {"T with a write to register 0", 22, 0x10, RA_OPERATION, 22},
+        {"T with a write of symbol 3", 23, 3, RA_OPERATION, 22},
     };
     for (size_t i = 0; i < sizeof faults / sizeof faults[0]; i++) {
         memcpy(damaged, T, sizeof T);
         damaged[faults[i].at] = faults[i].byte;
-        expect_fault(faults[i].name, damaged, sizeof T, faults[i].number);
+        expect_fault(faults[i].name, damaged, sizeof T, faults[i].number, faults[i].place);
     }
     memcpy(damaged, T, sizeof T);
     damaged[sizeof T] = 0;
-    expect_fault("T and one byte more", damaged, sizeof damaged, RA_BYTES_AFTER_THE_LAST_ARC);
+    expect_fault("T and one byte more", damaged, sizeof damaged, RA_BYTES_AFTER_THE_LAST_ARC, sizeof T);
 }
 
 static void expect_word(const char *name, const uint8_t *file, size_t size, const char *word, int accepted, int live) {

@@ -7,6 +7,7 @@ pub struct Reading {
     pub registers: u64,
     pub symbols: u64,
     pub arcs: u64,
+    pub place: u64,
     pub number: u8,
     pub automaton: u8,
 }

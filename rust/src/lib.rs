@@ -17,7 +17,7 @@
 mod engine;
 mod refusal;
 
-pub use refusal::{Automaton, Reason, Refusal};
+pub use refusal::{Automaton, Fault, Reason, Refusal};
 
 /// How many working words a call asks for.
 pub const WORKING_WORDS: usize = 8192;
@@ -65,12 +65,15 @@ pub enum Comparison {
     },
 }
 
-/// Is the file valid? Answers its counts, or its first fault.
+/// Is the file valid? Answers its counts, or its first fault and where that stands.
 ///
-/// Refused: 1 to 9.
-pub fn read(file: &[u8]) -> Result<Counts, Refusal> {
+/// Faults: 1 to 9.
+pub fn read(file: &[u8]) -> Result<Counts, Fault> {
     let r = unsafe { engine::ra_read(file.as_ptr(), file.len()) };
-    Refusal::unless(r.number, r.automaton)?;
+    Refusal::unless(r.number, r.automaton).map_err(|refusal| Fault {
+        reason: refusal.reason,
+        place: r.place as usize,
+    })?;
     Ok(Counts {
         letters: r.letters as usize,
         states: r.states as usize,

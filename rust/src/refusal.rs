@@ -142,3 +142,36 @@ impl fmt::Display for Refusal {
 }
 
 impl std::error::Error for Refusal {}
+
+/// The first fault of a file, and its place in bytes from the file's start: where the mark, the version, the count, the
+/// letter, the flag, the byte of an arc or the operation stands that is wrong; where the part begins that the file ends
+/// inside; where the bytes behind the last arc begin. It is at most the file's length.
+#[derive(Clone, Copy, Debug, PartialEq, Eq)]
+pub struct Fault {
+    pub reason: Reason,
+    pub place: usize,
+}
+
+impl fmt::Display for Fault {
+    fn fmt(&self, f: &mut fmt::Formatter<'_>) -> fmt::Result {
+        write!(
+            f,
+            "fault {} at byte {}: {}",
+            self.reason.number(),
+            self.place,
+            self.reason.message()
+        )
+    }
+}
+
+impl std::error::Error for Fault {}
+
+/// What another call with that one file would tell of it.
+impl From<Fault> for Refusal {
+    fn from(fault: Fault) -> Refusal {
+        Refusal {
+            reason: fault.reason,
+            automaton: Some(Automaton::First),
+        }
+    }
+}

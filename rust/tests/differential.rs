@@ -68,8 +68,14 @@ fn same_file(
 
 fn try_read(seed: u64, r: &mut Random) {
     let letters = random::letters(r);
-    let file = random::file(r, &letters);
-    let answer = engine::read(&file).map_err(|e| e.reason.number());
+    let mut file = random::file(r, &letters);
+    if r.one_in(2) {
+        file = random::damaged(r, file);
+    }
+    let answer = engine::read(&file).map_err(|e| plain::Fault {
+        number: e.reason.number(),
+        place: e.place,
+    });
     let expected = plain::read(&file).map(|x| engine::Counts {
         letters: x.letters.len(),
         states: x.finals.len(),

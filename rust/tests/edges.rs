@@ -57,8 +57,8 @@ fn sized(states: usize, registers: usize, arcs: usize, operations: usize) -> Vec
     write(&automaton(states, registers, loops))
 }
 
-fn number<T>(answer: Result<T, engine::Refusal>) -> u8 {
-    answer.map_or_else(|e| e.reason.number(), |_| 0)
+fn number<T, E: Into<engine::Refusal>>(answer: Result<T, E>) -> u8 {
+    answer.map_or_else(|e| e.into().reason.number(), |_| 0)
 }
 
 // ---- reading

@@ -21,7 +21,7 @@ fn program() -> PathBuf {
 
 /// The number of the fault, and what the last line begins with, up to what the fault means.
 fn expected(file: &[u8]) -> (u8, String) {
-    match plain::read_placed(file) {
+    match plain::read(file) {
         Ok(_) => (0, "no fault".to_string()),
         Err(f) => (
             f.number,

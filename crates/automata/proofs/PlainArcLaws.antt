@@ -1,5 +1,5 @@
 -- PlainArcLaws: the plain arcs of a configuration are its passing arcs, in the order of the file, repeats kept.
-use mathlib.Core.Path.{_∙_, _≡_, ap, refl, sym}
+use mathlib.Core.Path.{_∙_, _≡_, ap, refl}
 use mathlib.Core.Logic.{_≢_}
 use Prim.Native.Nat.{_+_, _<_, suc, zero, ℕ}
 use lib.Dec.{eqb}
@@ -12,7 +12,7 @@ use native.Mathlib.Omega.{arith}
 use borrow.Author.Tests.{eq-eqb, ne-eqb}
 use Rattle.automata.specs.Automaton.{Automaton, Configuration}
 use Rattle.automata.specs.Exploration.{number}
-use Rattle.automata.specs.Lists.{collect, only}
+use Rattle.automata.specs.Lists.{collect}
 use Rattle.automata.specs.Live.{PlainArc}
 use Rattle.automata.specs.Performing.{Move, successors}
 use Rattle.automata.specs.Unfolding.{configurations, leaving, plainAll, plainArcs, plainFrom, sameConfiguration}

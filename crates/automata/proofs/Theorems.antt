@@ -1,7 +1,7 @@
 -- Theorems: the theorems of this crate in one place, each in a statement that can be read by itself. Their proofs stand in the modules named.
 -- Read specs/ first: Automaton, Words, then the rest in the order of specs/Lib.antt. L and P are limits, whatever their values.
 use mathlib.Core.Path.{_≡_}
-use mathlib.Core.Logic.{_↔_, _⊎_}
+use mathlib.Core.Logic.{_↔_}
 use Prim.Native.Nat.{_<_, _≤_, ℕ}
 use lib.Dec.{T}
 use lib.ListN.{getElem?, length}

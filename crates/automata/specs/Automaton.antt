@@ -89,6 +89,7 @@ pub record Accepts (x : Automaton) (w : List ℕ) : Type 0 where
   pub final : Final x (end .state)
 
 -- ---- what is asked of an automaton; each one that a valid file holds is so
+-- the register that an operation reads or writes
 abbrev pub register : Op → ℕ
 register (reads i γ) = i
 register (writes i γ) = i

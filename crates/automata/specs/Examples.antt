@@ -16,15 +16,19 @@ use Rattle.automata.specs.Joins.{arcFrom, concatenation, intersection, c
 abbrev pub a : ℕ
 a = 97
 
+-- the second letter of S
 abbrev pub b : ℕ
 b = 98
 
+-- the first letter of T, and the only one of K
 abbrev pub c : ℕ
 c = 99
 
+-- the second letter of T
 abbrev pub e : ℕ
 e = 101
 
+-- the third letter of T
 abbrev pub m : ℕ
 m = 109
 
@@ -55,6 +59,7 @@ unfoldable pub automatonS : Automaton
 automatonS = record { alphabet = a ∷ b ∷ []; registers = 1; symbols = 1; finals = false ∷ true ∷ []; arcs = arc 0 0 0 readZero ∷ arc 0 1 1 readZero ∷ [] }
 
 -- ---- the table
+-- a row: an automaton and a word that it accepts or rejects, or the number of its configurations or of its plain arcs
 pub data Row : Type 0 where
   accepts rejects : (x : Automaton) (word : List ℕ) → Row
   reaches unfolds-to : (x : Automaton) (many : ℕ) → Row

@@ -42,6 +42,7 @@ finalStates i (true ∷ l) = i ∷ finalStates (suc i) l
 finalStates i (false ∷ l) = finalStates (suc i) l
 
 -- ---- union
+-- a new state 0, not final, with an empty move into each; the states of a move by 1, those of b by 1 and the states of a
 unfoldable pub union : Automaton → Automaton → Automaton
 union a b = record {
   alphabet = a .alphabet;
@@ -52,6 +53,7 @@ union a b = record {
 }
 
 -- ---- concatenation
+-- an empty move from each final state of a to the first state of b, whose states and registers stand behind those of a; only b's final states stay
 unfoldable pub concatenation : Automaton → Automaton → Automaton
 unfolding finalStates
 concatenation a b = record {

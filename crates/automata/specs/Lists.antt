@@ -41,6 +41,7 @@ Each P [] = Unit {0}
 Each P (x ∷ l) = P x × Each P l
 
 -- ---- are two of them the same?
+-- both the empty move, or one letter
 unfoldable pub sameLetter : Option ℕ → Option ℕ → Bool
 sameLetter none none = true
 sameLetter none (some b) = false

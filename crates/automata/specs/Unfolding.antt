@@ -56,6 +56,7 @@ unfoldable pub finalSet : Automaton → List Configuration → List Bool
 finalSet x cs = map (λ c. in? (x .finals) (c .state)) cs
 
 -- ---- membership, by live sets
+-- which of the at most n configurations are live after the letters w
 unfoldable pub liveSet : Automaton → ℕ → List ℕ → List Bool
 unfolding plainArcs live
 liveSet x n w = live (length (configurations x n)) (plainArcs x n) w
@@ -82,6 +83,7 @@ unfolding liveSet count spelling
 liveCount x n s = spelledOr 0 (λ w. count (liveSet x n w)) (spelling (x .alphabet) s)
 
 -- ---- the unfolded automaton: one register, one symbol, the same letters; each arc has one operation, the read of register 0
+-- the operations of an arc that needs none
 abbrev pub readZero : List Op
 readZero = reads 0 0 ∷ []
 

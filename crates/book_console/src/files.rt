@@ -1,4 +1,5 @@
 // Files that the program's arguments name. Argument 1 is the first one after the program's own name.
+ghost use Rattle.book_console.specs.Inputs.{LoadedTo};
 use super::words::say;
 use super::words::say_number;
 
@@ -8,14 +9,16 @@ pub enum Loaded {
     Nothing,
 }
 
-// Whether a further read of an open file passes: a directory can be opened, and not be read.
+// Whether a further read of an open file passes: a directory can be opened, and not be read. Cost: one read.
 fn is_readable(file: i32) -> bool {
     let mut one = [0u8; 1];
     libc::read(file, &mut one) >= 0
 }
 
-// Reads the file of this name to the front of `buffer`, as far as it has room.
-fn load_path(path: &[u8], buffer: &mut [u8]) -> Loaded {
+// Reads the file of this name to the front of `buffer`, as far as it has room. Cost: one pass over the file, as far as it is read.
+fn load_path(path: &[u8], buffer: &mut [u8]) -> Loaded
+    ensures { λ r. ⌜ LoadedTo (now (buffer .exit)) r ⌝ }
+{
     let file = os::open_read(path);
     if file < 0 {
         os::fail(path);
@@ -32,7 +35,10 @@ fn load_path(path: &[u8], buffer: &mut [u8]) -> Loaded {
 }
 
 // Reads the file that an argument names to the front of `buffer`, as far as it has room.
-pub fn load(argument: usize, buffer: &mut [u8]) -> Loaded {
+// Cost: one pass over the file, as far as it is read.
+pub fn load(argument: usize, buffer: &mut [u8]) -> Loaded
+    ensures { λ r. ⌜ LoadedTo (now (buffer .exit)) r ⌝ }
+{
     let mut path = io::buffer();
     let length = os::arg(argument, &mut path);
     if os::errno() != 0 {
@@ -42,7 +48,7 @@ pub fn load(argument: usize, buffer: &mut [u8]) -> Loaded {
     load_path(&path[..length], buffer)
 }
 
-// Writes the bytes to the open file and closes it, and answers whether both passed.
+// Writes the bytes to the open file and closes it, and answers whether both passed. Cost: one pass over the bytes.
 fn write_open(file: i32, bytes: &[u8]) -> bool {
     let is_written = io::write_all(file, bytes);
     let is_closed = libc::close(file) >= 0;
@@ -50,6 +56,7 @@ fn write_open(file: i32, bytes: &[u8]) -> bool {
 }
 
 // Writes the bytes to the file of this name, new or in place of what it held, and tells how many; or tells why it could not.
+// Cost: one pass over the bytes.
 fn save_path(path: &[u8], bytes: &[u8]) {
     let file = os::open_overwrite(path);
     if file < 0 {
@@ -67,7 +74,7 @@ fn save_path(path: &[u8], bytes: &[u8]) {
     say(1, b"\n");
 }
 
-// The same of the file that an argument names, and of the first n bytes.
+// The same of the file that an argument names, and of the first n bytes. Cost: one pass over them.
 pub fn save_front(argument: usize, bytes: &[u8], n: usize) {
     let mut path = io::buffer();
     let length = os::arg(argument, &mut path);

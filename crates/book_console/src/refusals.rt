@@ -5,7 +5,7 @@ use super::words::say_argument;
 use super::words::say_number;
 use file_writing::Written;
 
-// What a fault of a file, 1 to 9, means.
+// What a fault of a file, 1 to 9, means. Cost: the text.
 fn say_fault(file: i32, number: u8) -> bool {
     match number {
         1 => say(file, b"the file ends inside a field"),
@@ -29,7 +29,7 @@ fn say_fault(file: i32, number: u8) -> bool {
     }
 }
 
-// What a refusal of a call with valid files means.
+// What a refusal of a call with valid files means. Cost: the text.
 fn say_limit(file: i32, number: u8) -> bool {
     match number {
         10 => say(file, b"the two files have different letters"),
@@ -52,7 +52,7 @@ fn say_limit(file: i32, number: u8) -> bool {
     }
 }
 
-// What a refusal's number means.
+// What a refusal's number means. Cost: the text.
 pub fn say_meaning(file: i32, number: u8) -> bool {
     if number >= 1 && number <= 9 {
         say_fault(file, number)
@@ -61,7 +61,7 @@ pub fn say_meaning(file: i32, number: u8) -> bool {
     }
 }
 
-// The name of the file at fault and a colon; nothing where no single file is at fault.
+// The name of the file at fault and a colon; nothing where no single file is at fault. Cost: the text.
 fn say_automaton(automaton: u8, first: usize, second: usize) {
     match automaton {
         1 => {
@@ -77,7 +77,7 @@ fn say_automaton(automaton: u8, first: usize, second: usize) {
 }
 
 // Tells a refusal on standard error: the file at fault, the number, and what it means. `first` and `second` are the arguments that
-// name the first and the second file.
+// name the first and the second file. Cost: the line.
 pub fn tell_refusal(number: u8, automaton: u8, first: usize, second: usize) {
     say_automaton(automaton, first, second);
     say(2, b"refused with ");
@@ -88,7 +88,7 @@ pub fn tell_refusal(number: u8, automaton: u8, first: usize, second: usize) {
 }
 
 // Writes the file that a call answered to the file that the argument `result` names, or tells the refusal.
-// `out` is the output that the call was lent.
+// `out` is the output that the call was lent. Cost: one pass over the file, or the line of the refusal.
 pub fn finish(answer: Written, out: &[u8], first: usize, second: usize, result: usize) {
     match answer {
         Written::Bytes(n) => save_front(result, out, n),

@@ -8,12 +8,12 @@ use format::fields::arc_size;
 use format::fields::operation_kind;
 use format::fields::operation_register;
 
-// A state or a symbol, by its number.
+// A state or a symbol, by its number. Cost: its digits.
 fn say_byte(number: u8) {
     say_number(1, number as u64);
 }
 
-// An operation in words.
+// An operation in words. Cost: the text.
 fn say_operation(first: u8, symbol: u8) {
     if operation_kind(first as usize) == 0 {
         say(1, b"read ");
@@ -28,7 +28,7 @@ fn say_operation(first: u8, symbol: u8) {
 }
 
 // The operations in their order, `before` in front of the first. Of the read of register 0 alone, which always passes, nothing
-// is said.
+// is said. Cost: the operations.
 fn say_operations(before: &[u8], s: &[u8]) {
     if s.len() == 2 && s[0] == 0 {
         return;
@@ -44,7 +44,7 @@ fn say_operations(before: &[u8], s: &[u8]) {
     }
 }
 
-// The letter of an arc, or that it has none.
+// The letter of an arc, or that it has none. Cost: the text.
 fn say_arc_letter(letters: &[u8], number: u8) {
     let i = number as usize;
     if i < letters.len() {
@@ -54,7 +54,7 @@ fn say_arc_letter(letters: &[u8], number: u8) {
     }
 }
 
-// An arc as a line: `FROM --LETTER--> TO`, then its operations in words.
+// An arc as a line: `FROM --LETTER--> TO`, then its operations in words. Cost: its operations.
 fn say_arc(letters: &[u8], s: &[u8])
     requires { ⌜ 4 ≤ length (now s) ⌝ }
 {
@@ -67,7 +67,7 @@ fn say_arc(letters: &[u8], s: &[u8])
     say(1, b"\n");
 }
 
-// An arc as an edge of a graph, labelled by its letter and its operations in words.
+// An arc as an edge of a graph, labelled by its letter and its operations in words. Cost: its operations.
 fn say_edge(letters: &[u8], s: &[u8])
     requires { ⌜ 4 ≤ length (now s) ⌝ }
 {
@@ -81,7 +81,7 @@ fn say_edge(letters: &[u8], s: &[u8])
     say(1, b"\"];\n");
 }
 
-// Shows an arc, which is all of s.
+// Shows an arc, which is all of s. Cost: its operations.
 fn show_arc(graph: bool, letters: &[u8], s: &[u8])
     requires { ⌜ 4 ≤ length (now s) ⌝ }
 {
@@ -92,7 +92,7 @@ fn show_arc(graph: bool, letters: &[u8], s: &[u8])
     }
 }
 
-// Shows the arcs from the front of s on that stand there whole.
+// Shows the arcs from the front of s on that stand there whole. Cost: one pass over them.
 pub fn show_arcs(graph: bool, letters: &[u8], s: &[u8]) {
     let mut at: usize = 0;
     while 4 <= s.len() - at {

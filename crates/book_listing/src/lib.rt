@@ -1,12 +1,16 @@
 // book_listing: a file told in words, or as a graph in the DOT language, on standard output, up to its first fault. What the fault is
 // and where it stands is format::read's to say: nothing of the file is judged here.
 ghost use mathlib.Core.Path.{_≡_};
-ghost use Prim.Native.Nat.{_<_, _≤_};
+ghost use Prim.Native.Nat.{_≤_};
 ghost use lib.ListN.{length};
+ghost use Rattle.file_fields.specs.Parts.{countsOf};
+ghost use Rattle.format.specs.Limits.{Ranges};
 ghost use Rattle.format.specs.Reading.{readingOf};
 use arcs::show_arcs;
 use book_console::words::say;
 use book_console::words::say_number;
+use file_fields::fields::first_arc;
+use file_fields::fields::flags_at;
 use file_fields::header::read_counts;
 use format::Counts;
 use format::Reading;
@@ -16,13 +20,13 @@ use parts::show_states;
 mod arcs;
 mod parts;
 
-// A number, and what it counts.
+// A number, and what it counts. Cost: the text.
 fn say_count(n: usize, what: &[u8]) {
     say_number(1, n as u64);
     say(1, what);
 }
 
-// A line with the header's counts; a graph has none.
+// A line with the header's counts; a graph has none. Cost: the line.
 fn show_counts(graph: bool, c: Counts) {
     if graph {
         return;
@@ -34,7 +38,7 @@ fn show_counts(graph: bool, c: Counts) {
     say_count(c.arcs, b" arcs\n");
 }
 
-// The lines of registers and symbols: they are numbers below their counts.
+// The lines of registers and symbols: they are numbers below their counts. Cost: the lines.
 fn show_registers(graph: bool, c: Counts) {
     if graph {
         return;
@@ -49,11 +53,11 @@ fn show_registers(graph: bool, c: Counts) {
 }
 
 // Shows what stands behind the header and in front of the place `end`: of the letters and the flags as many as are there, then the
-// arcs. A part that the file ends inside is not shown.
+// arcs. A part that the file ends inside is not shown. Cost: one pass over the bytes shown.
 fn show_body(graph: bool, c: Counts, file: &[u8], end: usize)
-    requires { ⌜ (c .letters < 256) × (c .states < 65536) × (12 ≤ end) × (end ≤ length (now file)) ⌝ }
+    requires { ⌜ Ranges c × (12 ≤ end) × (end ≤ length (now file)) ⌝ }
 {
-    let flags = 12 + c.letters;
+    let flags = flags_at(c);
     if file.len() < flags {
         return;
     }
@@ -62,7 +66,7 @@ fn show_body(graph: bool, c: Counts, file: &[u8], end: usize)
         return;
     }
     show_letters(graph, &file[12..flags]);
-    let arcs = flags + c.states;
+    let arcs = first_arc(c);
     if file.len() < arcs {
         return;
     }
@@ -76,8 +80,9 @@ fn show_body(graph: bool, c: Counts, file: &[u8], end: usize)
 }
 
 // Shows what stands in front of the place `end`. The counts are shown whole where `end` is that of one of them, from byte 5 on.
+// Cost: one pass over the bytes shown.
 fn show_until(graph: bool, file: &[u8], end: usize)
-    requires { ⌜ end ≤ length (now file) ⌝ }
+    requires { ⌜ (end ≤ length (now file)) × (12 ≤ end → Ranges (countsOf (now file))) ⌝ }
 {
     if file.len() < 12 || end < 5 {
         return;
@@ -90,6 +95,7 @@ fn show_until(graph: bool, file: &[u8], end: usize)
 }
 
 // Shows the file up to its first fault, and answers what reading it answers.
+// Cost: that of reading the file, and one pass over the bytes shown.
 pub fn show(graph: bool, file: &[u8]) -> Reading
     ensures { λ r. ⌜ r ≡ readingOf (now (file .entry)) ⌝ }
 {

@@ -3,6 +3,7 @@ use book_console::words::say;
 use book_console::words::say_number;
 
 // A letter by itself where it is a visible character with no meaning of its own in a graph's label, else its byte in hexadecimal.
+// Cost: constant.
 pub fn say_letter(letter: u8) {
     if letter < 33 || letter > 126 || letter == b'"' || letter == b'\\' {
         say(1, b"0x");
@@ -13,7 +14,7 @@ pub fn say_letter(letter: u8) {
     say(1, &text);
 }
 
-// The letters, each behind a space.
+// The letters, each behind a space. Cost: the letters.
 fn say_letters(letters: &[u8]) {
     let mut i: usize = 0;
     while i < letters.len() {
@@ -23,7 +24,7 @@ fn say_letters(letters: &[u8]) {
     }
 }
 
-// A line with the letters; a graph has none.
+// A line with the letters; a graph has none. Cost: the letters.
 pub fn show_letters(graph: bool, letters: &[u8]) {
     if graph {
         return;
@@ -33,7 +34,7 @@ pub fn show_letters(graph: bool, letters: &[u8]) {
     say(1, b"\n");
 }
 
-// A state: in a graph a node, in a listing its number where it is final.
+// A state: in a graph a node, in a listing its number where it is final. Cost: constant.
 fn say_state(graph: bool, state: usize, is_final: bool) {
     if graph {
         say(1, b"  ");
@@ -48,7 +49,7 @@ fn say_state(graph: bool, state: usize, is_final: bool) {
     }
 }
 
-// The states with these flags, from state 0 on.
+// The states with these flags, from state 0 on. Cost: the flags.
 fn say_states(graph: bool, flags: &[u8]) {
     let mut i: usize = 0;
     while i < flags.len() {
@@ -57,7 +58,7 @@ fn say_states(graph: bool, flags: &[u8]) {
     }
 }
 
-// The states with these flags: in a listing how many there are in all, and which of these are final.
+// The states with these flags: in a listing how many there are in all, and which of these are final. Cost: the flags.
 pub fn show_states(graph: bool, count: usize, flags: &[u8]) {
     if graph {
         say_states(true, flags);

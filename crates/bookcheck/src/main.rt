@@ -21,7 +21,7 @@ enum Next {
     End,
 }
 
-// The next byte of standard input, or that there is none.
+// The next byte of standard input, or that there is none. Cost: one read of one byte.
 fn next_byte() -> Next {
     let mut one = [0u8; 1];
     if io::read_full(0, &mut one) == 0 {
@@ -30,7 +30,7 @@ fn next_byte() -> Next {
     Next::Byte(one[0])
 }
 
-// What the end of the input makes of the n bytes before it: a last line needs no newline.
+// What the end of the input makes of the n bytes before it: a last line needs no newline. Cost: constant.
 fn last_line(n: usize) -> Line {
     if n == 0 {
         return Line::End;
@@ -38,7 +38,7 @@ fn last_line(n: usize) -> Line {
     Line::Word(n)
 }
 
-// Reads one line to the front of `line`, without its newline.
+// Reads one line to the front of `line`, without its newline. Cost: one read for each byte.
 fn read_line(line: &mut [u8]) -> Line {
     let mut n: usize = 0;
     while n < line.len() {
@@ -54,7 +54,7 @@ fn read_line(line: &mut [u8]) -> Line {
     Line::Long
 }
 
-// Writes the line of an answer, and answers whether that passed.
+// Writes the line of an answer, and answers whether that passed. Cost: the line.
 fn say_line(answer: &[u8], live: u64, word: &[u8]) -> bool {
     say(1, answer);
     say_number(1, live);
@@ -64,6 +64,7 @@ fn say_line(answer: &[u8], live: u64, word: &[u8]) -> bool {
 }
 
 // Tells an answer, and answers whether the run goes on: it ends at a refusal, and where the answer cannot be written.
+// Cost: the line.
 fn tell(answer: Membership, word: &[u8]) -> bool {
     match answer {
         Membership::Accepted(live) => say_line(b"accepted ", live, word),
@@ -75,7 +76,7 @@ fn tell(answer: Membership, word: &[u8]) -> bool {
     }
 }
 
-// Judges the word of the first n bytes of a line.
+// Judges the word of the first n bytes of a line. Cost: that of `table::accepts`, and the line.
 fn judge(file: &[u8], line: &[u8], n: usize, work: &mut [u64]) -> bool {
     if line.len() < n {
         return false;
@@ -83,7 +84,7 @@ fn judge(file: &[u8], line: &[u8], n: usize, work: &mut [u64]) -> bool {
     tell(table::accepts(file, &line[0..n], work), &line[0..n])
 }
 
-// One word; false ends the run.
+// One word; false ends the run. Cost: one read for each byte of the line, and that of `judge`.
 fn turn(file: &[u8], line: &mut [u8], work: &mut [u64]) -> bool {
     match read_line(line) {
         Line::Word(n) => judge(file, line, n, work),
@@ -95,7 +96,7 @@ fn turn(file: &[u8], line: &mut [u8], work: &mut [u64]) -> bool {
     }
 }
 
-// Whether no word would be refused. The file alone decides that, so the empty word is asked.
+// Whether no word would be refused. The file alone decides that, so the empty word is asked. Cost: that of `table::accepts`.
 fn is_fit(file: &[u8], line: &[u8], work: &mut [u64]) -> bool {
     match table::accepts(file, &line[0..0], work) {
         Membership::Refused(number, automaton) => {
@@ -106,7 +107,7 @@ fn is_fit(file: &[u8], line: &[u8], work: &mut [u64]) -> bool {
     }
 }
 
-// All words.
+// All words. Cost: that of `turn` for each line.
 fn run(file: &[u8], line: &mut [u8], work: &mut [u64]) {
     if !is_fit(file, line, work) {
         return;
@@ -117,14 +118,7 @@ fn run(file: &[u8], line: &mut [u8], work: &mut [u64]) {
     }
 }
 
-// The same, the file being the first n bytes.
-fn run_on(file: &[u8], n: usize, line: &mut [u8], work: &mut [u64]) {
-    if n <= file.len() {
-        run(&file[0..n], line, work);
-    }
-}
-
-// bookcheck FILE.
+// bookcheck FILE. Cost: the file is read once, and then that of `run`.
 fn main() {
     if os::arg_count() != 2 {
         say(2, b"usage: bookcheck FILE\n");
@@ -136,5 +130,5 @@ fn main() {
     let Loaded::Bytes(n) = load(1, &mut file) else {
         return;
     };
-    run_on(&file, n, &mut line, &mut work);
+    run(&file[0..n], &mut line, &mut work);
 }

@@ -8,6 +8,7 @@ use book_console::words::say;
 use file_writing::Written;
 
 // The operation that the first argument names: 1 union, 2 concatenation, 3 intersection, 4 closure; 0 where it names none.
+// Cost: constant.
 fn operation_named() -> u8 {
     if is_argument(1, b"union") {
         1
@@ -22,7 +23,7 @@ fn operation_named() -> u8 {
     }
 }
 
-// The first operations take two files.
+// The first operations take two files. Cost: that of the join.
 fn join_files(operation: u8, first: &[u8], second: &[u8], out: &mut [u8]) -> Written {
     match operation {
         1 => join::union(first, second, out),
@@ -31,28 +32,8 @@ fn join_files(operation: u8, first: &[u8], second: &[u8], out: &mut [u8]) -> Wri
     }
 }
 
-// Joins the files of which a and b bytes were read, and writes the result to the file that argument 4 names.
-fn run_two(operation: u8, first: &[u8], a: usize, second: &[u8], b: usize, out: &mut [u8]) {
-    if first.len() < a {
-        return;
-    }
-    if second.len() < b {
-        return;
-    }
-    let answer = join_files(operation, &first[0..a], &second[0..b], out);
-    finish(answer, out, 2, 3, 4);
-}
-
-// Closes the file of which a bytes were read, and writes the result to the file that argument 3 names.
-fn run_one(first: &[u8], a: usize, out: &mut [u8]) {
-    if first.len() < a {
-        return;
-    }
-    let answer = join::close(&first[0..a], out);
-    finish(answer, out, 2, 2, 3);
-}
-
-// Joins the two files that are named, by the operation with this number.
+// Joins the two files that are named, by the operation with this number, and writes the result to the file that argument 4 names.
+// Cost: each file is read once, then that of the join and of writing its result.
 fn join_two(operation: u8, out: &mut [u8]) {
     let mut first = [0u8; 41293];
     let mut second = [0u8; 41293];
@@ -62,19 +43,22 @@ fn join_two(operation: u8, out: &mut [u8]) {
     let Loaded::Bytes(b) = load(3, &mut second) else {
         return;
     };
-    run_two(operation, &first, a, &second, b, out);
+    let answer = join_files(operation, &first[0..a], &second[0..b], out);
+    finish(answer, out, 2, 3, 4);
 }
 
-// Closes the file that is named.
+// Closes the file that is named, and writes the result to the file that argument 3 names.
+// Cost: the file is read once, then that of `join::close` and of writing its result.
 fn close_one(out: &mut [u8]) {
     let mut first = [0u8; 41293];
     let Loaded::Bytes(a) = load(2, &mut first) else {
         return;
     };
-    run_one(&first, a, out);
+    let answer = join::close(&first[0..a], out);
+    finish(answer, out, 2, 2, 3);
 }
 
-// The output has room for the longest file.
+// The output has room for the longest file. Cost: that of `join_two` or `close_one`.
 fn main() {
     let mut out = [0u8; 41292];
     let operation = operation_named();

@@ -9,7 +9,7 @@ use book_console::words::say;
 use book_console::words::say_number;
 use format::Reading;
 
-// The line of a fault: its number, its place and what it means.
+// The line of a fault: its number, its place and what it means. Cost: the line.
 fn say_fault(file: i32, number: u8, place: usize) {
     say(file, b"fault ");
     say_number(file, number as u64);
@@ -20,7 +20,7 @@ fn say_fault(file: i32, number: u8, place: usize) {
     say(file, b"\n");
 }
 
-// The last line of a listing.
+// The last line of a listing. Cost: the line.
 fn list_end(reading: Reading) {
     match reading {
         Reading::Valid(_) => {
@@ -30,7 +30,7 @@ fn list_end(reading: Reading) {
     }
 }
 
-// The file in words.
+// The file in words. Cost: that of `book_listing::show`.
 fn list(file: &[u8]) {
     say_number(1, file.len() as u64);
     say(1, b" bytes\n");
@@ -38,6 +38,7 @@ fn list(file: &[u8]) {
 }
 
 // A fault stands in the graph as a comment; it is told on standard error too, since a graph goes to another program.
+// Cost: the lines.
 fn draw_end(reading: Reading) {
     match reading {
         Reading::Valid(_) => {}
@@ -50,7 +51,7 @@ fn draw_end(reading: Reading) {
     say(1, b"}\n");
 }
 
-// The file as a graph.
+// The file as a graph. Cost: that of `book_listing::show`.
 fn draw(file: &[u8]) {
     say(
         1,
@@ -59,28 +60,25 @@ fn draw(file: &[u8]) {
     draw_end(book_listing::show(true, file));
 }
 
-// The file that was loaded, the n bytes at the front.
-fn run_on(graph: bool, file: &[u8], n: usize) {
-    if file.len() < n {
-        return;
-    }
+// The file in words or as a graph. Cost: that of `book_listing::show`.
+fn tell(graph: bool, file: &[u8]) {
     if graph {
-        draw(&file[0..n]);
+        draw(file);
     } else {
-        list(&file[0..n]);
+        list(file);
     }
 }
 
-// Loads the file named by an argument, and shows it.
+// Loads the file named by an argument, and shows it. Cost: the file is read once, and then that of `tell`.
 fn run(graph: bool, argument: usize) {
     let mut file = [0u8; 41293];
     let Loaded::Bytes(n) = load(argument, &mut file) else {
         return;
     };
-    run_on(graph, &file, n);
+    tell(graph, &file[0..n]);
 }
 
-// bookshow [--dot] FILE.
+// bookshow [--dot] FILE. Cost: that of `run`.
 fn main() {
     let count = os::arg_count();
     if count == 3 && is_argument(1, b"--dot") {

@@ -5,20 +5,13 @@ use book_console::files::load;
 use book_console::refusals::finish;
 use book_console::words::say;
 
-// Unfolds the file, and writes the result or tells the refusal.
+// Unfolds the file, and writes the result or tells the refusal. Cost: that of `unfold::unfold`, and of writing its result.
 fn run(file: &[u8], work: &mut [u64], out: &mut [u8]) {
     let answer = unfold::unfold(file, work, out);
     finish(answer, out, 1, 1, 2);
 }
 
-// The same, the file being the first n bytes.
-fn run_on(file: &[u8], n: usize, work: &mut [u64], out: &mut [u8]) {
-    if n <= file.len() {
-        run(&file[0..n], work, out);
-    }
-}
-
-// The output has room for the longest file.
+// The output has room for the longest file. Cost: the file is read once, and then that of `run`.
 fn main() {
     if os::arg_count() != 3 {
         say(2, b"usage: bookunfold FILE RESULT\n");
@@ -30,5 +23,5 @@ fn main() {
     let Loaded::Bytes(n) = load(1, &mut file) else {
         return;
     };
-    run_on(&file, n, &mut work, &mut out);
+    run(&file[0..n], &mut work, &mut out);
 }

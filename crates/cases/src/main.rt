@@ -23,14 +23,14 @@ enum Record {
     Ends,
 }
 
-// A byte as a number.
+// A byte as a number. Cost: constant.
 fn wide(x: u8) -> usize
     ensures { λ r. ⌜ r < 256 ⌝ }
 {
     x as usize
 }
 
-// The number of the four bytes at a place of a record's head, low byte first.
+// The number of the four bytes at a place of a record's head, low byte first. Cost: constant.
 fn number(head: &[u8; 17], at: usize) -> usize
     requires { ⌜ at < 14 ⌝ }
 {
@@ -40,7 +40,7 @@ fn number(head: &[u8; 17], at: usize) -> usize
         + 16777216 * wide(head[at + 3])
 }
 
-// How many working words an operation lends, by the record's number one.
+// How many working words an operation lends, by the record's number one. Cost: constant.
 fn words_lent(operation: u8, one: usize) -> usize {
     match operation {
         2 | 7 | 8 => one,
@@ -48,7 +48,7 @@ fn words_lent(operation: u8, one: usize) -> usize {
     }
 }
 
-// How many bytes of output or of a word an operation lends, by the record's two numbers.
+// How many bytes of output or of a word an operation lends, by the record's two numbers. Cost: constant.
 fn bytes_lent(operation: u8, one: usize, two: usize) -> usize {
     match operation {
         3..=6 => one,
@@ -57,7 +57,7 @@ fn bytes_lent(operation: u8, one: usize, two: usize) -> usize {
     }
 }
 
-// Reads what the next record begins with.
+// Reads what the next record begins with. Cost: one read of 17 bytes.
 fn next_record() -> Record {
     let mut head = [0u8; 17];
     if io::read_full(0, &mut head) < 17 {
@@ -77,7 +77,7 @@ fn next_record() -> Record {
     })
 }
 
-// Reads n bytes to the front of `buffer`, and answers whether they were there and had room.
+// Reads n bytes to the front of `buffer`, and answers whether they were there and had room. Cost: one pass over them.
 fn fill(buffer: &mut [u8], n: usize) -> bool {
     if buffer.len() < n {
         return false;
@@ -86,6 +86,7 @@ fn fill(buffer: &mut [u8], n: usize) -> bool {
 }
 
 // Joins or unfolds, on exactly what a record lends; where the operation is neither, that is a refusal with no number.
+// Cost: that of the call.
 fn written(
     operation: u8,
     first: &[u8],
@@ -104,6 +105,7 @@ fn written(
 }
 
 // Writes the line of one operation on exactly what its record lends, and answers its length; 0 where there is no such operation.
+// Cost: that of the call, and the line.
 fn answer(
     operation: u8,
     first: &[u8],
@@ -125,7 +127,7 @@ fn answer(
     }
 }
 
-// Prints a line, where there is one, and answers whether the run goes on.
+// Prints a line, where there is one, and answers whether the run goes on. Cost: the line.
 fn print(line: &[u8]) -> bool {
     if line.len() == 0 {
         io::write_all(1, b"unknown\n");
@@ -139,7 +141,7 @@ fn print(line: &[u8]) -> bool {
 }
 
 // Answers a record on exactly what it lends of the buffers, and prints the line. False ends the run: where a buffer is shorter, there is
-// no such operation, or the line cannot be written.
+// no such operation, or the line cannot be written. Cost: that of the call, and the line.
 fn lend(
     head: Head,
     first: &[u8],
@@ -167,6 +169,7 @@ fn lend(
 }
 
 // Reads one record and answers it; false ends the run. The buffers are lent as arrays: an array's length asks no proof.
+// Cost: one pass over the record, and that of `lend`.
 fn turn(
     first: &mut [u8; 41293],
     second: &mut [u8; 41293],
@@ -187,7 +190,7 @@ fn turn(
 }
 
 // The buffers are as long as the longest file, word, working memory and output of the cases; `line` holds that output
-// in hexadecimal.
+// in hexadecimal. Cost: that of `turn` for each record.
 fn main() {
     let mut first = [0u8; 41293];
     let mut second = [0u8; 41293];

@@ -8,24 +8,22 @@ use native.Mathlib.Omega.{arith}
 use lib.Dec.{T, eqb}
 use lib.ListN.{drop, getD, getElem?, length}
 use Rattle.automata.specs.Automaton.{Automaton, letters}
-use Rattle.automata.specs.Live.{live, liveFrom, meets}
+use Rattle.automata.specs.Live.{meets}
 use Rattle.automata.specs.Pairs.{Pair, difference, different, differs, firstAccepts, judged, onward, pairOf, pairs, samePair, secondAccepts, shown, takerOf, verdict}
 use Rattle.automata.specs.Search.{Entry, entries, firstOf}
 use Rattle.automata.specs.Unfolding.{configurations, finalSet, liveSet, plainArcs}
 use Rattle.automata.proofs.Laws.{First, at, firstOf-first, getElem?-lt, getElem?-some, nowhere, shown-many}
 use Rattle.compare_pairs.specs.Entries.{Holds, Side, Tree, along, begin, sideOf}
-use Rattle.word_layout.specs.Layout.{firstBlock, secondBlock}
 use Rattle.compare_pairs.specs.declared.Grown.{Grown}
 use Rattle.compare_search.specs.Searching.{Both, Outcome}
 use Rattle.word_sets.specs.Sets.{view}
 use Rattle.compare_witness.specs.Spelled.{alone, differsBy, takerBy, wordOf}
 use Rattle.compare_witness.proofs.Laws.{Judges, judge-entry, spelled-word}
-use Rattle.table_sets.specs.Stepping.{FromList, Held}
-use Rattle.table.proofs.Laws.{row-start}
+use Rattle.table_sets.specs.Stepping.{Tells}
 use Rattle.compare_promise.specs.Comparing.{countRefusals}
 use Rattle.compare.specs.Answers.{Answers}
 use Rattle.compare.specs.Loading.{Comparable}
-use Rattle.compare.specs.declared.deciding.Standing.{Standing}
+use Rattle.compare.specs.declared.loading.Standing.{Standing}
 use Rattle.compare_promise.specs.declared.Comparison.the-variants.{Different, Refused, Same}
 use Rattle.compare.proofs.Verdicts.{answers-different, answers-many, answers-same}
 use Rattle.compare_promise.proofs.Laws.{oneTwo}
@@ -70,21 +68,16 @@ module _ {x y : Automaton} {L : ℕ} {w₀ : List ℕ} {one two : Standing} {byt
   many-letters = ap length (c .spelled)
 
   -- ---- the words
-  both : Both (length bytes) s t w₀ (one .count) (one .plain) (two .count) (two .plain)
-  unfolding live liveFrom
+  both : Both (length bytes) s t w₀ (one .block) (two .block)
   both = record {
-    size₁ = sym (c .first .built .many);
-    size₂ = sym (c .second .built .many);
-    held₁ = subst (λ (a : ℕ). Held (one .count) a (plainArcs x L) (FromList w₀ firstBlock (one .count) (one .plain))) (sym many-letters) (c .first .built .held (c .first .listed));
-    held₂ = subst (λ (a : ℕ). Held (two .count) a (plainArcs y L) (FromList w₀ secondBlock (two .count) (two .plain))) (ap length (c .shared) ∙ sym many-letters) (c .second .built .held (c .second .listed));
-    start₁ = row-start (c .first .built) .0;
-    start₂ = row-start (c .second .built) .0;
-    settled₁ = row-start (c .first .built) .1;
-    settled₂ = row-start (c .second .built) .1;
+    size₁ = sym (c .first .many);
+    size₂ = sym (c .second .many);
+    tells₁ = subst (λ (a : ℕ). Tells a (plainArcs x L) w₀ (one .block)) (sym many-letters) (c .first .tells);
+    tells₂ = subst (λ (a : ℕ). Tells a (plainArcs y L) w₀ (two .block)) (ap length (c .shared) ∙ sym many-letters) (c .second .tells);
   }
 
   -- what searching leaves
-  pub outcome : (w : List ℕ) (r : Grown) → ((s t : Side) → Both (length bytes) s t w₀ (one .count) (one .plain) (two .count) (two .plain) → Outcome P s t w (entries samePair (along s t) (length bytes) (begin s t) P) r) → Outcome P s t w es r
+  pub outcome : (w : List ℕ) (r : Grown) → ((s t : Side) → Both (length bytes) s t w₀ (one .block) (two .block) → Outcome P s t w (entries samePair (along s t) (length bytes) (begin s t) P) r) → Outcome P s t w es r
   outcome w r h = subst (λ (a : ℕ). Outcome P s t w (entries samePair (along s t) a (begin s t) P) r) many-letters (h s t both)
 
   -- ---- the definition's pairs
@@ -97,10 +90,10 @@ module _ {x y : Automaton} {L : ℕ} {w₀ : List ℕ} {one two : Standing} {byt
 
   -- ---- the final sets
   finals₁ : F ≡ finalSet x (configurations x L)
-  finals₁ = ap (λ (n : ℕ). view n (one .finals)) (sym (c .first .built .many)) ∙ c .first .final
+  finals₁ = ap (λ (n : ℕ). view n (one .finals)) (sym (c .first .many)) ∙ c .first .final
 
   finals₂ : G ≡ finalSet y (configurations y L)
-  finals₂ = ap (λ (n : ℕ). view n (two .finals)) (sym (c .second .built .many)) ∙ c .second .final
+  finals₂ = ap (λ (n : ℕ). view n (two .finals)) (sym (c .second .many)) ∙ c .second .final
 
   differs-is : (u : Pair) → differsBy F G u ≡ differs x y L u
   unfolding takerBy differs firstAccepts secondAccepts
@@ -139,12 +132,9 @@ module _ {x y : Automaton} {L : ℕ} {w₀ : List ℕ} {one two : Standing} {byt
         → new ≡ map (λ (l : ℕ). getD bytes l 0) (wordOf w i) ++ drop size old → Answers L P (countRefusals L P x y) x y old new (Different n taker size)
     unfolding verdict judged
     answer-different a old new taker size low tree told long put =
-        answers-different x y L P (c .formed₁) (c .formed₂) (c .shared) (fits (c .first .built .many) (c .first .built .ended)) (fits (c .second .built .many) (c .second .built .ended)) few old new n taker size (wordOf w i) is long
+        answers-different x y L P (c .formed₁) (c .formed₂) (c .shared) (c .first .ended) (c .second .ended) few old new n taker size (wordOf w i) is long
         (put ∙ ap (λ (b : List ℕ). map (λ (l : ℕ). getD b l 0) (wordOf w i) ++ drop size old) (c .spelled))
       where
-        fits : {j l : ℕ} → j ≡ l → j ≤ L → l ≤ L
-        fits u v = omega arith
-
         e : Entry Pair
         e = getElem?-some es i (omega (arith, h .many)) .0
 

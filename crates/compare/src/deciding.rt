@@ -8,19 +8,12 @@ ghost use Rattle.compare_search.specs.Searching.{Ready};
 ghost use Rattle.compare.specs.Answers.{Answers};
 ghost use Rattle.compare.specs.Loading.{Comparable};
 use super::Comparison;
+use super::loading::Standing;
 use compare_pairs::Grown;
 use compare_search::explore_pairs;
 use compare_witness::first_difference;
 use compare_witness::judge_pair;
 use compare_witness::put_word;
-
-// An automaton that stands in its block: the number of its configurations, that of the plain arcs that are listed, and the set of its
-// final configurations.
-pub struct Standing {
-    pub count: usize,
-    pub plain: usize,
-    pub finals: [u64; 4],
-}
 
 // All pairs are explored, whether or not one of them differs, and the first that differs is shown. The letters are those of both.
 // Refuses 23: more than 512 pairs.
@@ -32,20 +25,13 @@ pub fn decide(
     letters: &[u8],
     word: &mut [u8],
 ) -> Comparison
-    requires { ⌜ Ready (length (now letters)) (now w) (one .count) (one .plain) (two .count) (two .plain) × (512 ≤ length (now word)) ⌝ }
+    requires { ⌜ Ready (length (now letters)) (now w) (one .block) (two .block) × (512 ≤ length (now word)) ⌝ }
     ensures same { λ _. ⌜ length (now (w .exit)) ≡ length (now (w .entry)) ⌝ }
     ensures answers { λ r. ⌜ ((x y : Automaton) → Comparable x y 256 (now (w .entry)) one two (now (letters .entry)) → Answers 256 512 (countRefusals 256 512 x y) x y (now (word .entry)) (now (word .exit)) r) ⌝ }
 {
     let f = one.finals;
     let g = two.finals;
-    let Grown::Total(n) = explore_pairs(
-        w,
-        letters.len(),
-        one.count,
-        one.plain,
-        two.count,
-        two.plain,
-    ) else {
+    let Grown::Total(n) = explore_pairs(w, letters.len(), one.block, two.block) else {
         return Comparison::Refused {
             number: 23,
             automaton: 0,

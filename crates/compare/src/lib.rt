@@ -7,25 +7,20 @@ ghost use Rattle.compare_promise.specs.Comparing.{tableRefusals};
 ghost use Rattle.compare_promise.specs.Compares.{Compares};
 pub use compare_promise::Comparison;
 ghost use Rattle.compare.specs.Answers.{FilesAnswer};
-use compare_prune::prune;
-use deciding::Standing;
 use deciding::decide;
 use file_pair::Files;
 use file_pair::read_files;
 use format::Counts;
+use format::fields::flags_at;
 use loading::load;
-use table::finals::final_set;
 use word_layout::FIRST_BLOCK;
-use word_layout::FIRST_SETS;
 use word_layout::SECOND_BLOCK;
 
 mod deciding;
 mod loading;
 
-// Two valid files with the same letters: of each, the automaton is loaded, its final configurations are taken, and the plain arcs that
-// add nothing to a step are dropped; then both are decided. The final configurations of the first are taken before the second is
-// loaded, whose configurations take the place of the first one's.
-// Cost: what loading, pruning and deciding take.
+// Two valid files with the same letters: the automaton of each is loaded, and then both are decided.
+// Cost: what loading and deciding take.
 fn compare_files(
     first: &[u8],
     a: Counts,
@@ -45,8 +40,6 @@ fn compare_files(
             automaton: 1,
         };
     }
-    let first_finals = final_set(first, a, w, one.count);
-    let first_plain = prune(w, FIRST_BLOCK, FIRST_SETS, one.count, one.plain);
     let two = load(second, b, w, SECOND_BLOCK);
     if two.refusal != 0 {
         return Comparison::Refused {
@@ -54,20 +47,8 @@ fn compare_files(
             automaton: 2,
         };
     }
-    let second_finals = final_set(second, b, w, two.count);
-    let second_plain = prune(w, SECOND_BLOCK, FIRST_SETS, two.count, two.plain);
-    let end = 12 + a.letters;
-    let x = Standing {
-        count: one.count,
-        plain: first_plain,
-        finals: first_finals,
-    };
-    let y = Standing {
-        count: two.count,
-        plain: second_plain,
-        finals: second_finals,
-    };
-    decide(w, x, y, &first[12..end], word)
+    let end = flags_at(a);
+    decide(w, one.standing, two.standing, &first[12..end], word)
 }
 
 // Do the automata of two files accept the same words? Where they do not, a shortest word that exactly one accepts stands at the front

@@ -1,4 +1,4 @@
-// Loading: an automaton is built in its block, or refused where it is beyond a limit.
+// Loading: an automaton is built in its block and made ready to be compared, or refused where it is beyond a limit.
 ghost use mathlib.Core.Path.{_≡_};
 ghost use Prim.Native.Nat.{_≤_};
 ghost use lib.ListN.{length};
@@ -7,47 +7,66 @@ ghost use Rattle.format.specs.Reading.{readingOf};
 ghost use Rattle.word_fields.specs.Frame.{KeptBut};
 ghost use Rattle.word_layout.specs.Layout.{blockEnd, firstBlock};
 ghost use Rattle.compare.specs.Loading.{Loads};
+use compare_prune::prune;
 use format::Counts;
 use table::block::build;
+use table::finals::final_configurations;
 use table_explore::Explored;
+use word_layout::Block;
+use word_layout::FIRST_SETS;
 
-// What loading answers: the number of the refusal, 21 or 22, or 0; and where it is 0, the number of configurations and that of the plain
-// arcs.
-pub struct Loaded {
-    pub refusal: u8,
-    pub count: usize,
-    pub plain: usize,
+// An automaton that is ready to be compared: its block, and the set of its final configurations.
+pub struct Standing {
+    pub block: Block,
+    pub finals: [u64; 4],
 }
 
-// Loads the automaton of a valid file with the counts c into the block from `base` on. Its configurations stand until the next automaton
-// is loaded, which takes their place. Refuses 21: more than 256 configurations; 22: more than 2,048 plain arcs.
-// Cost: what building takes.
+// What loading answers: the number of the refusal, 21 or 22, or 0; and where it is 0, the automaton.
+pub struct Loaded {
+    pub refusal: u8,
+    pub standing: Standing,
+}
+
+// No automaton is loaded, for this reason.
+// Cost: constant.
+fn refused(number: u8) -> Loaded
+    ensures { λ r. ⌜ r .refusal ≡ number ⌝ }
+{
+    let block = Block {
+        base: 0,
+        count: 0,
+        plain: 0,
+    };
+    let standing = Standing {
+        block,
+        finals: [0; 4],
+    };
+    Loaded {
+        refusal: number,
+        standing,
+    }
+}
+
+// Loads the automaton of a valid file with the counts c into the block from `base` on: it is built, its final configurations are taken,
+// and the plain arcs that add nothing to a step are dropped. Its configurations stand until the next automaton is loaded, which takes their
+// place. Refuses 21: more than 256 configurations; 22: more than 2,048 plain arcs.
+// Cost: what building and pruning take, and one look at each configuration.
 pub fn load(file: &[u8], c: Counts, w: &mut [u64], base: usize) -> Loaded
     requires { ⌜ (readingOf (now file) ≡ Valid c) × ((firstBlock ≤ base) × (blockEnd base ≤ length (now w))) ⌝ }
     ensures kept { λ _. ⌜ KeptBut 0 firstBlock base (blockEnd base) (now (w .entry)) (now (w .exit)) ⌝ }
-    ensures loads { λ r. ⌜ Loads (now (file .entry)) c 2048 (now (w .exit)) base r ⌝ }
+    ensures loads { λ r. ⌜ Loads (now (file .entry)) 2048 (now (w .exit)) base r ⌝ }
 {
-    let Explored::Tables {
-        configurations: count,
-        plain,
-    } = build(file, c, w, base)
-    else {
-        return Loaded {
-            refusal: 21,
-            count: 0,
-            plain: 0,
-        };
+    let Explored::Tables { count, plain } = build(file, c, w, base) else {
+        return refused(21);
     };
     if 2048 < plain {
-        return Loaded {
-            refusal: 22,
-            count: 0,
-            plain: 0,
-        };
+        return refused(22);
     }
+    let finals = final_configurations(file, c, w, count);
+    let block = prune(w, Block { base, count, plain }, FIRST_SETS);
+    let standing = Standing { block, finals };
     Loaded {
         refusal: 0,
-        count,
-        plain,
+        standing,
     }
 }

@@ -1,4 +1,2 @@
 pub mod PruneOne
 pub mod PruneAll
-pub mod BuiltPruned
-pub mod Laws

@@ -16,8 +16,10 @@ use Rattle.word_fields.specs.Frame.{Kept, KeptBut}
 use Rattle.word_fields.proofs.Laws.{but-high, but-low, but-same, but-then, but-wider, field-same}
 use Rattle.word_sets.specs.Sets.{inSet}
 use Rattle.word_rows.specs.Rows.{related}
-use Rattle.table_sets.specs.Stepping.{Among, FromList, Room, Starts, endAt, setOf, startAt}
-use Rattle.compare_prune.specs.Pruning.{Covered, ToldStill}
+use Rattle.automata.specs.Live.{PlainArc}
+use Rattle.word_layout.specs.declared.Block.{Block}
+use Rattle.table_sets.specs.Stepping.{Among, BySource, FromList, Room, Starts, Tells, endAt, setOf, startAt}
+use Rattle.compare_prune.specs.Pruning.{Covered}
 use Rattle.table_sets.proofs.Laws.{SameBlock, arc-kept, block-kept, end-below, list-kept, none-met, start-kept, starts-kept, related-kept}
 use Rattle.compare_prune.proofs.PruneOne.{SameRows, among-same, rows-kept}
 
@@ -223,20 +225,29 @@ module _ {w₀ w w₁ w₂ : List ℕ} {base acc count plain c kept from to end 
   }
 
 -- THE LAW. What is left tells the plain arcs still.
-module _ {w₀ w : List ℕ} {base acc count plain c kept : ℕ} (apart : acc + 256 ≤ base) (s : Starts w₀ base count plain) (h : count ≤ c) (v : Pruning w₀ base acc count plain c w kept) where
-  all : c ≡ count
+module _ {w₀ w : List ℕ} {block : Block} {acc c kept : ℕ} (apart : acc + 256 ≤ block .base) (s : BySource w₀ block) (h : block .count ≤ c)
+    (v : Pruning w₀ (block .base) acc (block .count) (block .plain) c w kept) where
+  abbrev pruned : Block
+  pruned = record { base = block .base; count = block .count; plain = kept }
+
+  all : c ≡ block .count
   all = omega (arith, v .high)
 
-  pub pruned-starts : Starts w base count kept
-  pruned-starts = rw (← all) (v .starts)
-
-  pub pruned-told : ToldStill w₀ w base count plain kept
-  pruned-told letters arcs few runs held = record {
-    within = held .within;
-    sound = λ i l j g m a. held .sound i l j g m (rw all at (v .sound i l j (omega (arith, all))) a);
-    full = λ i l j g m r.
-        let q = held .full i l j g m r in
-        let d = run-below count arcs (held .within) g (q .1) in
-        let u : Covered w base count kept (q .0) l j = rw all at (v .full (q .0) l j (omega (arith, all, d)) (omega arith) (q .2)) in
-        (u .source, joined (q .1) (⊎-elim (λ e. rw e stay) (λ t. runs (q .0) (u .source) d (subst T (rows-kept base acc (v .frame) apart (q .0) (u .source) (omega (arith, d, s .few))) t)) (u .near)), u .leads);
+  pub pruned-tells : (letters : ℕ) (arcs : List PlainArc) → letters ≤ 64 → Tells letters arcs w₀ block → Tells letters arcs w pruned
+  pruned-tells letters arcs few t = record {
+    some = t .some;
+    rows = λ i j g. rw (rows i j g) (t .rows i j g);
+    listed = rw (← all) (v .starts);
+    held = record {
+      within = t .held .within;
+      sound = λ i l j g m a. t .held .sound i l j g m (rw all at (v .sound i l j (omega (arith, all))) a);
+      full = λ i l j g m r.
+          let q = t .held .full i l j g m r in
+          let d = run-below (block .count) arcs (t .held .within) g (q .1) in
+          let u : Covered w (block .base) (block .count) kept (q .0) l j = rw all at (v .full (q .0) l j (omega (arith, all, d)) (omega arith) (q .2)) in
+          (u .source, joined (q .1) (⊎-elim (λ e. rw e stay) (λ e. (t .rows (q .0) (u .source) d) .0 (subst T (rows (q .0) (u .source) d) e)) (u .near)), u .leads);
+    };
   }
+    where
+      rows : (i j : ℕ) → i < block .count → related w (block .base) i j ≡ related w₀ (block .base) i j
+      rows i j g = rows-kept (block .base) acc (v .frame) apart i j (omega (arith, s .few))

@@ -3,16 +3,18 @@
 // inside what another configuration leads to by that letter, one that is live whenever this one is.
 ghost use mathlib.Core.Path.{_≡_};
 ghost use mathlib.Core.Logic.{_⊎_};
+ghost use mathlib.Core.List.{List};
 ghost use Prim.Native.Nat.{ℕ, _+_, _≤_, _<_};
 ghost use lib.Dec.{T};
 ghost use lib.ListN.{length};
+ghost use Rattle.automata.specs.Live.{PlainArc};
 ghost use Rattle.word_layout.specs.Layout.{arcsAt, blockEnd, startsAt};
 ghost use Rattle.word_fields.specs.Fields.{field};
 ghost use Rattle.word_fields.specs.Frame.{Kept, KeptBut};
 ghost use Rattle.word_sets.specs.Sets.{inSet};
 ghost use Rattle.word_rows.specs.Rows.{related};
-ghost use Rattle.table_sets.specs.Stepping.{setOf, Among, Room, Starts};
-ghost use Rattle.compare_prune.specs.Pruning.{Covered, ToldStill};
+ghost use Rattle.table_sets.specs.Stepping.{setOf, Among, BySource, Room, Starts, Tells};
+ghost use Rattle.compare_prune.specs.Pruning.{Covered};
 use compare_step::visit;
 use table_sets::Listed;
 use table_sets::end_of;
@@ -22,6 +24,7 @@ use table_sets::list_arc;
 use table_sets::listed_arc;
 use table_sets::set_of;
 use table_sets::start_arcs;
+use word_layout::Block;
 
 // Does the arc add anything: has it a letter, and is its target's row not inside that letter's set so far? Empty moves are in the rows,
 // and their letter, 255, is no letter's number.
@@ -91,18 +94,21 @@ fn prune_one(
     end
 }
 
-// Drops the listed arcs that add nothing, of each configuration. Answers how many are left. They are written down in place: where one
+// Drops the listed arcs that add nothing, of each configuration. Answers the block with those that are left. They are written down in place: where one
 // is written is never behind where one is read. Where there are fewer than two for each configuration, all stay: the test would take
 // longer than what it saves.
 // Cost: two rows for each arc, and one more for each arc of the first configuration in the row of its own.
-pub fn prune(w: &mut [u64], base: usize, acc: usize, count: usize, plain: usize) -> usize
-    requires { ⌜ (acc + 256 ≤ base) × ((blockEnd base ≤ length (now w)) × Starts (now w) base count plain) ⌝ }
-    ensures kept { λ _. ⌜ KeptBut acc (acc + 256) (arcsAt base) (blockEnd base) (now (w .entry)) (now (w .exit)) ⌝ }
-    ensures starts { λ r. ⌜ Starts (now (w .exit)) base count r × (r ≤ plain) ⌝ }
-    ensures told { λ r. ⌜ ToldStill (now (w .entry)) (now (w .exit)) base count plain r ⌝ }
+pub fn prune(w: &mut [u64], block: Block, acc: usize) -> Block
+    requires { ⌜ (acc + 256 ≤ block .base) × ((blockEnd (block .base) ≤ length (now w)) × BySource (now w) block) ⌝ }
+    ensures kept { λ _. ⌜ KeptBut acc (acc + 256) (arcsAt (block .base)) (blockEnd (block .base)) (now (w .entry)) (now (w .exit)) ⌝ }
+    ensures same { λ r. ⌜ (r .base ≡ block .base) × (r .count ≡ block .count) ⌝ }
+    ensures told { λ r. ⌜ ((letters : ℕ) (arcs : List PlainArc) → letters ≤ 64 → Tells letters arcs (now (w .entry)) block → Tells letters arcs (now (w .exit)) r) ⌝ }
 {
+    let base = block.base;
+    let count = block.count;
+    let plain = block.plain;
     if plain < 2 * count {
-        return plain;
+        return block;
     }
     let mut kept: usize = 0;
     let mut c: usize = 0;
@@ -115,5 +121,9 @@ pub fn prune(w: &mut [u64], base: usize, acc: usize, count: usize, plain: usize)
         kept = end;
         c += 1;
     }
-    kept
+    Block {
+        base,
+        count,
+        plain: kept,
+    }
 }

@@ -8,15 +8,16 @@ use native.Mathlib.Numerals.{add-one}
 use native.Mathlib.Omega.{arith}
 use lib.ListN.{getElem?, length}
 use Rattle.automata.specs.Exploration.{addAll, known, targets, walk}
-use Rattle.automata.specs.Live.{live}
+use Rattle.automata.specs.Live.{PlainArc, live}
 use Rattle.automata.specs.Pairs.{Pair, samePair}
 use Rattle.automata.specs.Search.{Entry, entries, nextEntries, origin, sameEntry}
 use Rattle.automata.proofs.Laws.{getElem?-some, known-ended, known-long, none-some}
 use Rattle.word_fields.specs.Frame.{Kept}
 use Rattle.word_fields.proofs.Laws.{kept-same, kept-then}
 use Rattle.word_sets.specs.Sets.{εClosedSet, view}
-use Rattle.word_rows.specs.Rows.{row}
-use Rattle.word_layout.specs.Layout.{firstBlock, secondBlock}
+use Rattle.table_sets.specs.Stepping.{Tells}
+use Rattle.word_layout.specs.Layout.{firstBlock}
+use Rattle.word_layout.specs.declared.Block.{Block}
 use Rattle.compare_pairs.specs.Entries.{Holds, Row, Side, alike, along, begin}
 use Rattle.compare_pairs.specs.Pairs.{Added}
 use Rattle.compare_pairs.specs.declared.Grown.{Grown}
@@ -25,19 +26,19 @@ use Rattle.compare_search.specs.Searching.{Both, Grows, Outcome, Ready, 
 use Rattle.compare_search.proofs.TableFrames.{both-kept}
 
 -- what one expansion tells
-abbrev pub Expanded : (a count₁ plain₁ count₂ plain₂ i : ℕ) (w w' : List ℕ) (n : ℕ) → Grown → Type 0
-Expanded a count₁ plain₁ count₂ plain₂ i w w' n r =
-    (s t : Side) (es : List (Entry Pair)) (e : Entry Pair) → Both a s t w count₁ plain₁ count₂ plain₂ → Holds s t w n es → getElem? es i ≡ some e
+abbrev pub Expanded : (a : ℕ) (one two : Block) (i : ℕ) (w w' : List ℕ) (n : ℕ) → Grown → Type 0
+Expanded a one two i w w' n r =
+    (s t : Side) (es : List (Entry Pair)) (e : Entry Pair) → Both a s t w one two → Holds s t w n es → getElem? es i ≡ some e
     → Outcome 512 s t w' (addAll alike es (nextEntries (along s t) a e)) r
 
 -- what is known of the pairs, once i of them are expanded
-abbrev pub Walk : (a count₁ plain₁ count₂ plain₂ : ℕ) (w₀ w : List ℕ) (n i : ℕ) → Type 0
-Walk a count₁ plain₁ count₂ plain₂ w₀ w n i =
-    (s t : Side) (q : Pair) → Both a s t w₀ count₁ plain₁ count₂ plain₂ → Holds s t w₀ 1 (origin q ∷ []) → Holds s t w n (entries samePair (along s t) a q i)
+abbrev pub Walk : (a : ℕ) (one two : Block) (w₀ w : List ℕ) (n i : ℕ) → Type 0
+Walk a one two w₀ w n i =
+    (s t : Side) (q : Pair) → Both a s t w₀ one two → Holds s t w₀ 1 (origin q ∷ []) → Holds s t w n (entries samePair (along s t) a q i)
 
-pub walk-start : (a count₁ plain₁ count₂ plain₂ : ℕ) (w : List ℕ) → Walk a count₁ plain₁ count₂ plain₂ w w 1 0
+pub walk-start : (a : ℕ) (one two : Block) (w : List ℕ) → Walk a one two w w 1 0
 unfolding entries known
-walk-start a count₁ plain₁ count₂ plain₂ w s t q b h = h
+walk-start a one two w s t q b h = h
 
 module _ (a : ℕ) (s t : Side) (q : Pair) where
   abbrev all : ℕ → List (Entry Pair)
@@ -49,9 +50,9 @@ module _ (a : ℕ) (s t : Side) (q : Pair) where
       ap (λ (o : Option (Entry Pair)). addAll alike (all i) (targets (nextEntries (along s t) a) o)) (sym p)
       ∙ ap (λ (k : ℕ). all k) (sym (add-one i))
 
-  walk-more : {count₁ plain₁ count₂ plain₂ : ℕ} (w₀ w w' : List ℕ) (n i : ℕ) (r : Grown) → Ready a w₀ count₁ plain₁ count₂ plain₂ → Kept 0 firstBlock w₀ w → i < n
-      → Walk a count₁ plain₁ count₂ plain₂ w₀ w n i → Expanded a count₁ plain₁ count₂ plain₂ i w w' n r
-      → Both a s t w₀ count₁ plain₁ count₂ plain₂ → Holds s t w₀ 1 (origin q ∷ []) → Outcome 512 s t w' (all (i + 1)) r
+  walk-more : {one two : Block} (w₀ w w' : List ℕ) (n i : ℕ) (r : Grown) → Ready a w₀ one two → Kept 0 firstBlock w₀ w → i < n
+      → Walk a one two w₀ w n i → Expanded a one two i w w' n r
+      → Both a s t w₀ one two → Holds s t w₀ 1 (origin q ∷ []) → Outcome 512 s t w' (all (i + 1)) r
   walk-more w₀ w w' n i r ready k l g f b h =
       let m = g s t q b h in
       let e = getElem?-some (all i) i (omega (arith, m .many)) in
@@ -73,20 +74,20 @@ module _ (a : ℕ) (s t : Side) (q : Pair) where
       (sym (known-ended (sameEntry samePair) (nextEntries (along s t) a) (origin q ∷ []) i (P - i) (omega (arith, h .many))) ∙ ap (λ (k : ℕ). all k) e) h
 
 -- ---- the invariant
-pub record Walked (a count₁ plain₁ count₂ plain₂ : ℕ) (w₀ w : List ℕ) (n i : ℕ) : Type 0 where
+pub record Walked (a : ℕ) (one two : Block) (w₀ w : List ℕ) (n i : ℕ) : Type 0 where
   pub few : i ≤ n
   pub kept : Kept 0 firstBlock w₀ w
   pub some-pair : 1 ≤ n
   pub table : Table a w n
-  pub walk : Walk a count₁ plain₁ count₂ plain₂ w₀ w n i
+  pub walk : Walk a one two w₀ w n i
 
-pub walked-start : (a count₁ plain₁ count₂ plain₂ : ℕ) (w : List ℕ) → Table a w 1 → Walked a count₁ plain₁ count₂ plain₂ w w 1 0
-walked-start a count₁ plain₁ count₂ plain₂ w t =
-    record { few = omega arith; kept = kept-same 0 firstBlock w; some-pair = omega arith; table = t; walk = walk-start a count₁ plain₁ count₂ plain₂ w }
+pub walked-start : (a : ℕ) (one two : Block) (w : List ℕ) → Table a w 1 → Walked a one two w w 1 0
+walked-start a one two w t =
+    record { few = omega arith; kept = kept-same 0 firstBlock w; some-pair = omega arith; table = t; walk = walk-start a one two w }
 
-module _ {a count₁ plain₁ count₂ plain₂ : ℕ} {w₀ w : List ℕ} {n i : ℕ} (w' : List ℕ) (r : Grown) (ready : Ready a w₀ count₁ plain₁ count₂ plain₂) (h : i < n)
-    (k : Walked a count₁ plain₁ count₂ plain₂ w₀ w n i) (kept : Kept 0 firstBlock w w') (grows : Grows a w' n r) (x : Expanded a count₁ plain₁ count₂ plain₂ i w w' n r) where
-  pub walked-more : (m : ℕ) → r ≡ Total m → Walked a count₁ plain₁ count₂ plain₂ w₀ w' m (i + 1)
+module _ {a : ℕ} {one two : Block} {w₀ w : List ℕ} {n i : ℕ} (w' : List ℕ) (r : Grown) (ready : Ready a w₀ one two) (h : i < n)
+    (k : Walked a one two w₀ w n i) (kept : Kept 0 firstBlock w w') (grows : Grows a w' n r) (x : Expanded a one two i w w' n r) where
+  pub walked-more : (m : ℕ) → r ≡ Total m → Walked a one two w₀ w' m (i + 1)
   walked-more m e =
       let g : Grows a w' n (Total m) = subst (λ (r : Grown). Grows a w' n r) e grows in
       record {
@@ -95,29 +96,32 @@ module _ {a count₁ plain₁ count₂ plain₂ : ℕ} {w₀ w : List ℕ} {n i 
         some-pair = omega (arith, g .0);
         table = g .1;
         walk = λ s t q b o. walk-more a s t q w₀ w w' n i (Total m) ready (k .kept) h (k .walk)
-            (subst (λ (r : Grown). Expanded a count₁ plain₁ count₂ plain₂ i w w' n r) e x) b o;
+            (subst (λ (r : Grown). Expanded a one two i w w' n r) e x) b o;
       }
 
-  pub walked-over : r ≡ TooMany → (s t : Side) (q : Pair) → Both a s t w₀ count₁ plain₁ count₂ plain₂ → Holds s t w₀ 1 (origin q ∷ []) → 512 < length (entries samePair (along s t) a q 512)
+  pub walked-over : r ≡ TooMany → (s t : Side) (q : Pair) → Both a s t w₀ one two → Holds s t w₀ 1 (origin q ∷ []) → 512 < length (entries samePair (along s t) a q 512)
   walked-over e s t q b o =
       walk-over a s t q i 512 (omega (arith, k .table .few))
       (walk-more a s t q w₀ w w' n i TooMany ready (k .kept) h (k .walk)
-      (subst (λ (r : Grown). Expanded a count₁ plain₁ count₂ plain₂ i w w' n r) e x) b o)
+      (subst (λ (r : Grown). Expanded a one two i w w' n r) e x) b o)
 
 -- ---- the first pair
-pub holds-start : {a count₁ plain₁ count₂ plain₂ : ℕ} (s t : Side) {w w' u v : List ℕ} → Both a s t w count₁ plain₁ count₂ plain₂
-    → u ≡ row w firstBlock 0 → v ≡ row w secondBlock 0 → Added w w' 0 u v 0 → Holds s t w' 1 (origin (begin s t) ∷ [])
+-- the set u is the live set of the empty word of every block that tells plain arcs
+abbrev pub Starting : (w : List ℕ) (block : Block) (u : List ℕ) → Type 0
+Starting w block u = (letters : ℕ) (arcs : List PlainArc) → Tells letters arcs w block → (view (block .count) u ≡ live (block .count) arcs []) × εClosedSet (block .count) arcs u
+
+pub holds-start : {a : ℕ} {one two : Block} (s t : Side) {w w' u v : List ℕ} → Both a s t w one two → Starting w one u → Starting w two v → Added w w' 0 u v 0 → Holds s t w' 1 (origin (begin s t) ∷ [])
 unfolding begin
-holds-start s t {w} {w'} {u} {v} b eu ev d = record { many = refl; each = go }
+holds-start {a} s t {w} {w'} {u} {v} b eu ev d = record { many = refl; each = go }
   where
     start : Entry Pair
     start = origin (begin s t)
 
     first : (view (s .size) u ≡ live (s .size) (s .arcs) []) × εClosedSet (s .size) (s .arcs) u
-    first = rw (b .size₁, eu) (b .start₁, b .settled₁)
+    first = rw (b .size₁) (eu a (s .arcs) (b .tells₁))
 
     second : (view (t .size) v ≡ live (t .size) (t .arcs) []) × εClosedSet (t .size) (t .arcs) v
-    second = rw (b .size₂, ev) (b .start₂, b .settled₂)
+    second = rw (b .size₂) (ev a (t .arcs) (b .tells₂))
 
     own : Row s t w' (start ∷ []) 0 start
     own = record {

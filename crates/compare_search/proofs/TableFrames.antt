@@ -1,12 +1,11 @@
 -- TableFrames: what is written below the blocks leaves the automata as they are, and what is written behind the table leaves its pairs.
-use mathlib.Core.Path.{_∙_, _≡_, ap, ap₂, refl, subst, sym}
+use mathlib.Core.Path.{_∙_, _≡_, ap, ap₂, subst, sym}
 use mathlib.Core.Logic.{inl, inr, ⊎-elim}
 use mathlib.Core.Bool.{Bool, cond}
 use mathlib.Core.List.{List, [], _++_, _∷_}
 use Prim.Native.Nat.{_%_, _*_, _+_, _/_, _<_, _≤_, ℕ}
 use native.Mathlib.Omega.{arith}
-use lib.ListN.{getElem?, length}
-use Rattle.automata.specs.Live.{PlainArc}
+use lib.ListN.{getElem?}
 use Rattle.automata.specs.Pairs.{Pair}
 use Rattle.automata.specs.Search.{Entry}
 use Rattle.automata.proofs.Laws.{getElem?-lt}
@@ -16,52 +15,41 @@ use Rattle.word_fields.proofs.Laws.{chain-kept, field-same}
 use Rattle.word_sets.specs.Sets.{εClosedSet, bit, view}
 use Rattle.word_rows.specs.Rows.{row}
 use Rattle.word_rows.proofs.Laws.{row-above, row-below}
-use Rattle.table_sets.specs.Stepping.{FromList, Held, Room, Starts, setOf}
-use Rattle.table_sets.proofs.Laws.{SameBlock, block-kept, held-same, list-kept, starts-kept}
-use Rattle.word_layout.specs.Layout.{firstBlock, firstSets, parents, pairHeads, pairNexts, secondBlock, secondSets}
+use Rattle.table_sets.specs.Stepping.{Room, setOf}
+use Rattle.table_sets.proofs.Laws.{SameBlock, block-kept, starts-kept, tells-kept}
+use Rattle.word_layout.specs.Layout.{firstBlock, firstSets, parents, pairHeads, pairNexts, secondSets}
+use Rattle.word_layout.specs.declared.Block.{Block}
 use Rattle.compare_pairs.specs.Entries.{Child, Holds, Side}
 use Rattle.compare_pairs.specs.Pairs.{pairSlot}
 use Rattle.compare_search.specs.Searching.{Behind, Both, Ready, Table}
 
 -- ---- the blocks
-pub held-kept : {base count plain a : ℕ} {arcs : List PlainArc} {w w' : List ℕ} → SameBlock base w w' → Starts w base count plain
-    → Held count a arcs (FromList w base count plain) → Held count a arcs (FromList w' base count plain)
-held-kept b s held = held-same (λ c l j h. list-kept b c s h refl refl l j) held
+module _ {a : ℕ} {w w' : List ℕ} {one two : Block} (k : Kept 0 firstBlock w w') (r : Ready a w one two) where
+  first-kept : SameBlock (one .base) w w'
+  first-kept = block-kept k (inl (omega (arith, r .first)))
 
--- the first row of a block, once words below the blocks are written
-first-row : {base : ℕ} {w w' : List ℕ} → Kept 0 firstBlock w w' → firstBlock ≤ base → row w' base 0 ≡ row w base 0
-first-row {base} k h = row-above base 0 k (omega arith)
+  second-kept : SameBlock (two .base) w w'
+  second-kept = block-kept k (inl (omega (arith, r .second)))
 
-pub ready-kept : {a : ℕ} {w w' : List ℕ} {count₁ plain₁ count₂ plain₂ : ℕ} → Kept 0 firstBlock w w' → Ready a w count₁ plain₁ count₂ plain₂ → Ready a w' count₁ plain₁ count₂ plain₂
-ready-kept k r = record {
-  long = omega (arith, k .long, r .long);
-  few = r .few;
-  first = starts-kept (block-kept k (inl (omega arith))) (r .first);
-  second = starts-kept (block-kept k (inl (omega arith))) (r .second);
-}
+  pub ready-kept : Ready a w' one two
+  ready-kept = record {
+    long = omega (arith, k .long, r .long);
+    few = r .few;
+    first = r .first;
+    second = r .second;
+    listed₁ = starts-kept first-kept (r .listed₁);
+    listed₂ = starts-kept second-kept (r .listed₂);
+  }
 
-pub both-kept : {a : ℕ} {s t : Side} {w w' : List ℕ} {count₁ plain₁ count₂ plain₂ : ℕ} → Kept 0 firstBlock w w' → Ready a w count₁ plain₁ count₂ plain₂
-    → Both a s t w count₁ plain₁ count₂ plain₂ → Both a s t w' count₁ plain₁ count₂ plain₂
-both-kept {s = s} {t} {count₁ = count₁} {count₂ = count₂} k r b =
-    let e = first-row {base = firstBlock} k (omega arith) in
-    let f = first-row {base = secondBlock} k (omega arith) in
-    record {
-      size₁ = b .size₁;
-      size₂ = b .size₂;
-      held₁ = held-kept (block-kept k (inl (omega arith))) (r .first) (b .held₁);
-      held₂ = held-kept (block-kept k (inl (omega arith))) (r .second) (b .held₂);
-      start₁ = ap (view count₁) e ∙ b .start₁;
-      start₂ = ap (view count₂) f ∙ b .start₂;
-      settled₁ = subst (λ (x : List ℕ). εClosedSet count₁ (s .arcs) x) (sym e) (b .settled₁);
-      settled₂ = subst (λ (x : List ℕ). εClosedSet count₂ (t .arcs) x) (sym f) (b .settled₂);
-    }
+  pub both-kept : {s t : Side} → Both a s t w one two → Both a s t w' one two
+  both-kept b = record { size₁ = b .size₁; size₂ = b .size₂; tells₁ = tells-kept first-kept (b .tells₁); tells₂ = tells-kept second-kept (b .tells₂) }
 
 -- what the steps ask
-pub room-first : {w : List ℕ} → 8192 ≤ length w → Room w firstBlock firstSets
-room-first h = record { block = omega arith; rows = omega arith; apart = inl (omega arith) }
+pub room-first : {a : ℕ} {w : List ℕ} {one two : Block} → Ready a w one two → Room w (one .base) firstSets
+room-first r = record { block = omega (arith, r .long, r .first); rows = omega (arith, r .long); apart = inl (omega (arith, r .first)) }
 
-pub room-second : {w : List ℕ} → 8192 ≤ length w → Room w secondBlock secondSets
-room-second h = record { block = omega arith; rows = omega arith; apart = inl (omega arith) }
+pub room-second : {a : ℕ} {w : List ℕ} {one two : Block} → Ready a w one two → Room w (two .base) secondSets
+room-second r = record { block = omega (arith, r .long, r .second); rows = omega (arith, r .long); apart = inl (omega (arith, r .second)) }
 
 -- ---- the sets of the letters
 pub set-same : (w w' : List ℕ) (acc met l : ℕ) → row w' acc l ≡ row w acc l → setOf w' acc met l ≡ setOf w acc met l

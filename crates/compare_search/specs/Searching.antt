@@ -1,17 +1,17 @@
 -- Searching: what exploring the pairs of two automata asks of the words, and what it leaves there. The automata stand in blocks
--- (crate table_sets, specs/Stepping.antt), each with the number of its configurations and of its plain arcs; both have a letters.
+-- (crate table_sets, specs/Stepping.antt); both have a letters.
 use mathlib.Core.Path.{_≡_}
 use mathlib.Core.Bool.{Bool}
 use mathlib.Core.List.{List, [], _∷_}
 use Prim.Native.Nat.{ℕ, _<_, _≤_}
 use lib.ListN.{length}
-use Rattle.automata.specs.Live.{byLetter, live}
+use Rattle.automata.specs.Live.{byLetter}
 use Rattle.automata.specs.Search.{Entry}
 use Rattle.automata.specs.Pairs.{Pair}
 use Rattle.word_sets.specs.Sets.{view, εClosedSet}
-use Rattle.word_rows.specs.Rows.{row}
-use Rattle.table_sets.specs.Stepping.{FromList, Held, Starts, setOf}
+use Rattle.table_sets.specs.Stepping.{BySource, Tells, setOf}
 use Rattle.word_layout.specs.Layout.{firstBlock, firstSets, secondBlock, secondSets}
+use Rattle.word_layout.specs.declared.Block.{Block}
 use Rattle.compare_pairs.specs.Entries.{Holds, Side, Tree}
 use Rattle.compare_pairs.specs.Pairs.{PairAt, PairChain}
 use Rattle.compare_pairs.specs.declared.Grown.{Grown}
@@ -19,12 +19,14 @@ use Rattle.compare_pairs.specs.declared.Grown.the-variants.{TooMany, Total}
 
 -- ---- whatever the words stand for
 
--- the words are there, and the arcs that are listed in both blocks
-pub record Ready (a : ℕ) (w : List ℕ) (count₁ plain₁ count₂ plain₂ : ℕ) : Type 0 where
+-- the words are there, and both blocks in their places, their arcs listed by source
+pub record Ready (a : ℕ) (w : List ℕ) (one two : Block) : Type 0 where
   pub long : 8192 ≤ length w
   pub few : a ≤ 64
-  pub first : Starts w firstBlock count₁ plain₁
-  pub second : Starts w secondBlock count₂ plain₂
+  pub first : one .base ≡ firstBlock
+  pub second : two .base ≡ secondBlock
+  pub listed₁ : BySource w one
+  pub listed₂ : BySource w two
 
 -- n pairs stand in the table, with their parents and letters, and can be found
 pub record Table (a : ℕ) (w : List ℕ) (n : ℕ) : Type 0 where
@@ -45,16 +47,12 @@ pub record EmptyPair (w : List ℕ) (n : ℕ) : Type 0 where
 
 -- ---- what the words stand for
 
--- the blocks are those of the two sides, and the first row of each is the live set of the empty word
-pub record Both (a : ℕ) (s t : Side) (w : List ℕ) (count₁ plain₁ count₂ plain₂ : ℕ) : Type 0 where
-  pub size₁ : s .size ≡ count₁
-  pub size₂ : t .size ≡ count₂
-  pub held₁ : Held count₁ a (s .arcs) (FromList w firstBlock count₁ plain₁)
-  pub held₂ : Held count₂ a (t .arcs) (FromList w secondBlock count₂ plain₂)
-  pub start₁ : view count₁ (row w firstBlock 0) ≡ live count₁ (s .arcs) []
-  pub start₂ : view count₂ (row w secondBlock 0) ≡ live count₂ (t .arcs) []
-  pub settled₁ : εClosedSet count₁ (s .arcs) (row w firstBlock 0)
-  pub settled₂ : εClosedSet count₂ (t .arcs) (row w secondBlock 0)
+-- the blocks are those of the two sides
+pub record Both (a : ℕ) (s t : Side) (w : List ℕ) (one two : Block) : Type 0 where
+  pub size₁ : s .size ≡ one .count
+  pub size₂ : t .size ≡ two .count
+  pub tells₁ : Tells a (s .arcs) w one
+  pub tells₂ : Tells a (t .arcs) w two
 
 -- the set u is the live set S behind letter l
 abbrev pub Behind : Side → List Bool → ℕ → List ℕ → Type 0

@@ -20,12 +20,12 @@ ghost use Rattle.compare_search.specs.Searching.{Ready, Table, Grows, Em
 use compare_pairs::Grown;
 use compare_pairs::add_pair;
 use compare_pairs::meet;
+use compare_step::start_set;
 use compare_step::step;
 use table_sets::set_of;
-use word_layout::FIRST_BLOCK;
+use word_layout::Block;
 use word_layout::FIRST_SETS;
 use word_layout::PAIR_HEADS;
-use word_layout::SECOND_BLOCK;
 use word_layout::SECOND_SETS;
 use word_rows::load;
 
@@ -92,51 +92,35 @@ fn meet_letters(w: &mut [u64], a: usize, i: usize, from: usize, met1: u64, met2:
 
 // Every letter from pair i: a step from each of its sets, for all letters at once, and then the letters.
 // Cost: one row for each arc of a live configuration, and that of `meet_letters`.
-fn expand(
-    w: &mut [u64],
-    a: usize,
-    i: usize,
-    from: usize,
-    count1: usize,
-    plain1: usize,
-    count2: usize,
-    plain2: usize,
-) -> Grown
-    requires { ⌜ Ready a (now w) count1 plain1 count2 plain2 ⌝ }
+fn expand(w: &mut [u64], a: usize, i: usize, from: usize, one: Block, two: Block) -> Grown
+    requires { ⌜ Ready a (now w) one two ⌝ }
     requires { ⌜ (i < from) × Table a (now w) from ⌝ }
     ensures kept { λ _. ⌜ Kept 0 firstBlock (now (w .entry)) (now (w .exit)) ⌝ }
     ensures grows { λ r. ⌜ Grows a (now (w .exit)) from r ⌝ }
-    ensures meets { λ r. ⌜ ((s t : Side) (es : List (Entry Pair)) (e : Entry Pair) → Both a s t (now (w .entry)) count1 plain1 count2 plain2 → Holds s t (now (w .entry)) from es → getElem? es i ≡ some e
+    ensures meets { λ r. ⌜ ((s t : Side) (es : List (Entry Pair)) (e : Entry Pair) → Both a s t (now (w .entry)) one two → Holds s t (now (w .entry)) from es → getElem? es i ≡ some e
         → Outcome 512 s t (now (w .exit)) (addAll alike es (nextEntries (along s t) a e)) r) ⌝ }
 {
     let u = load(w, 0, 2 * i);
     let v = load(w, 0, 2 * i + 1);
-    let met1 = step(w, FIRST_BLOCK, FIRST_SETS, count1, plain1, u);
-    let met2 = step(w, SECOND_BLOCK, SECOND_SETS, count2, plain2, v);
+    let met1 = step(w, one, FIRST_SETS, u);
+    let met2 = step(w, two, SECOND_SETS, v);
     meet_letters(w, a, i, from, met1, met2)
 }
 
 // All pairs, from the one that stands first.
 // Cost: that of `expand`, for each pair.
-fn explore_from(
-    w: &mut [u64],
-    a: usize,
-    count1: usize,
-    plain1: usize,
-    count2: usize,
-    plain2: usize,
-) -> Grown
-    requires { ⌜ Ready a (now w) count1 plain1 count2 plain2 ⌝ }
+fn explore_from(w: &mut [u64], a: usize, one: Block, two: Block) -> Grown
+    requires { ⌜ Ready a (now w) one two ⌝ }
     requires { ⌜ Table a (now w) 1 ⌝ }
     ensures kept { λ _. ⌜ Kept 0 firstBlock (now (w .entry)) (now (w .exit)) ⌝ }
     ensures grows { λ r. ⌜ Grows a (now (w .exit)) 1 r ⌝ }
-    ensures meets { λ r. ⌜ ((s t : Side) (q : Pair) → Both a s t (now (w .entry)) count1 plain1 count2 plain2 → Holds s t (now (w .entry)) 1 (origin q ∷ [])
+    ensures meets { λ r. ⌜ ((s t : Side) (q : Pair) → Both a s t (now (w .entry)) one two → Holds s t (now (w .entry)) 1 (origin q ∷ [])
         → Outcome 512 s t (now (w .exit)) (entries samePair (along s t) a q 512) r) ⌝ }
 {
     let mut n: usize = 1;
     let mut i: usize = 0;
     while i < n {
-        match expand(w, a, i, n, count1, plain1, count2, plain2) {
+        match expand(w, a, i, n, one, two) {
             Grown::TooMany => {
                 return Grown::TooMany;
             }
@@ -149,25 +133,18 @@ fn explore_from(
     Grown::Total(n)
 }
 
-// All pairs that words over a letters lead to, from the first rows of the two blocks; each with the pair and the letter by which it
+// All pairs that words over a letters lead to, from the live sets of the empty word in the two blocks; each with the pair and the letter by which it
 // was met first. 512 at most.
 // Cost: for each pair one row for each arc of a live configuration, and a look into the table for each letter that is met.
-pub fn explore_pairs(
-    w: &mut [u64],
-    a: usize,
-    count1: usize,
-    plain1: usize,
-    count2: usize,
-    plain2: usize,
-) -> Grown
-    requires { ⌜ Ready a (now w) count1 plain1 count2 plain2 ⌝ }
+pub fn explore_pairs(w: &mut [u64], a: usize, one: Block, two: Block) -> Grown
+    requires { ⌜ Ready a (now w) one two ⌝ }
     ensures kept { λ _. ⌜ Kept 0 firstBlock (now (w .entry)) (now (w .exit)) ⌝ }
     ensures grows { λ r. ⌜ Grows a (now (w .exit)) 1 r ⌝ }
-    ensures meets { λ r. ⌜ ((s t : Side) → Both a s t (now (w .entry)) count1 plain1 count2 plain2 → Outcome 512 s t (now (w .exit)) (entries samePair (along s t) a (begin s t) 512) r) ⌝ }
+    ensures meets { λ r. ⌜ ((s t : Side) → Both a s t (now (w .entry)) one two → Outcome 512 s t (now (w .exit)) (entries samePair (along s t) a (begin s t) 512) r) ⌝ }
 {
     word_fields::fill(w, PAIR_HEADS, 128);
-    let u = load(w, FIRST_BLOCK, 0);
-    let v = load(w, SECOND_BLOCK, 0);
+    let u = start_set(w, one);
+    let v = start_set(w, two);
     add_pair(w, 0, u, v, 0);
-    explore_from(w, a, count1, plain1, count2, plain2)
+    explore_from(w, a, one, two)
 }

@@ -10,7 +10,7 @@ use book_console::words::say;
 use book_console::words::say_argument;
 use table::Membership;
 
-// A line of the answer.
+// A line of the answer. Cost: the line.
 fn say_line(sign: &[u8], word: &[u8]) {
     say(1, sign);
     if word.len() > 0 {
@@ -20,7 +20,7 @@ fn say_line(sign: &[u8], word: &[u8]) {
     say(1, b"\n");
 }
 
-// Judges a word. `argument` names the file.
+// Judges a word. `argument` names the file. Cost: that of `table::accepts`, and the line.
 fn judge(argument: usize, file: &[u8], word: &[u8], work: &mut [u64]) {
     match table::accepts(file, word, work) {
         Membership::Accepted(_) => say_line(b"+", word),
@@ -31,7 +31,7 @@ fn judge(argument: usize, file: &[u8], word: &[u8], work: &mut [u64]) {
     }
 }
 
-// Judges the word of a line: what stands behind the sign and a space.
+// Judges the word of a line: what stands behind the sign and a space. Cost: that of `judge`.
 fn judge_line(argument: usize, file: &[u8], line: &[u8], work: &mut [u64]) {
     if line.len() < 2 {
         judge(argument, file, &line[0..0], work);
@@ -40,7 +40,7 @@ fn judge_line(argument: usize, file: &[u8], line: &[u8], work: &mut [u64]) {
     }
 }
 
-// Where the line that begins at a place ends: at a newline, or where the text ends.
+// Where the line that begins at a place ends: at a newline, or where the text ends. Cost: the bytes of the line.
 fn line_end(text: &[u8], from: usize) -> usize
     requires { ⌜ from ≤ length (now text) ⌝ }
     ensures { λ r. ⌜ (from ≤ r) × (r ≤ length (now (text .entry))) ⌝ }
@@ -55,7 +55,7 @@ fn line_end(text: &[u8], from: usize) -> usize
     i
 }
 
-// Judges every line of the text.
+// Judges every line of the text. Cost: that of `judge_line` for each line.
 fn judge_lines(argument: usize, file: &[u8], text: &[u8], work: &mut [u64]) {
     let mut at: usize = 0;
     while at < text.len() {
@@ -65,18 +65,8 @@ fn judge_lines(argument: usize, file: &[u8], text: &[u8], work: &mut [u64]) {
     }
 }
 
-// The same, of the first n and m bytes of the two files.
-fn judge_parts(argument: usize, file: &[u8], n: usize, text: &[u8], m: usize, work: &mut [u64]) {
-    if file.len() < n {
-        return;
-    }
-    if text.len() < m {
-        return;
-    }
-    judge_lines(argument, &file[0..n], &text[0..m], work);
-}
-
 // Judges the words of the file that the second argument names by the automaton of the one that the first names.
+// Cost: both files are read once, and then that of `judge_lines`.
 fn judge_example(first: usize, second: usize) {
     let mut file = [0u8; 41293];
     let mut text = [0u8; 41293];
@@ -89,7 +79,7 @@ fn judge_example(first: usize, second: usize) {
     };
     say_argument(1, second);
     say(1, b"\n");
-    judge_parts(first, &file, n, &text, m, &mut work);
+    judge_lines(first, &file[0..n], &text[0..m], &mut work);
 }
 
 // Arguments are taken two by two, a thousand at most.

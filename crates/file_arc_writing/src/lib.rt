@@ -22,7 +22,7 @@ pub struct Fields {
     pub target: usize,
 }
 
-// The four bytes of an arc with p operations.
+// The four bytes of an arc with p operations. Cost: constant.
 fn write_fields(out: &mut [u8], at: usize, f: Fields, p: usize) -> usize
     requires { ⌜ AreBytes f × (p < 256) × (at + 4 ≤ length (now out)) ⌝ }
     ensures { λ r. ⌜ Appended at (f .source ∷ f .letter ∷ f .target ∷ p ∷ []) (now (out .entry)) (now (out .exit)) r ⌝ }
@@ -34,7 +34,7 @@ fn write_fields(out: &mut [u8], at: usize, f: Fields, p: usize) -> usize
     at + 4
 }
 
-// A register, moved by k if it is 1 or above.
+// A register, moved by k if it is 1 or above. Cost: constant.
 fn moved_register(register: usize, k: usize) -> usize
     requires { ⌜ (register < 16) × (k ≤ 8) ⌝ }
     ensures { λ r. ⌜ (r ≡ movedRegister k register) × (r < 24) ⌝ }
@@ -42,7 +42,7 @@ fn moved_register(register: usize, k: usize) -> usize
     if register == 0 { 0 } else { register + k }
 }
 
-// The first byte of the operation with the first byte x, its register moved.
+// The first byte of the operation with the first byte x, its register moved. Cost: constant.
 fn moved_operation(x: usize, k: usize) -> usize
     requires { ⌜ k ≤ 8 ⌝ }
     ensures { λ r. ⌜ ((y : ℕ) → opBytes (movedOp k (opOf x y)) ≡ r ∷ y ∷ []) × (r < 40) ⌝ }
@@ -55,7 +55,7 @@ fn moved_operation(x: usize, k: usize) -> usize
     }
 }
 
-// At the front of the output the p operations at the front of `ops`, their registers moved.
+// At the front of the output the p operations at the front of `ops`, their registers moved. Cost: p.
 fn write_ops(out: &mut [u8], ops: &[u8], p: usize, k: usize)
     requires { ⌜ (k ≤ 8) × (2 * p ≤ length (now ops)) × (2 * p ≤ length (now out)) ⌝ }
     ensures { λ _. ⌜ now (out .exit) ≡ placed 0 (opsBytes (map (movedOp k) (opsOf p (now (ops .entry))))) (now (out .entry)) ⌝ }
@@ -69,7 +69,7 @@ fn write_ops(out: &mut [u8], ops: &[u8], p: usize, k: usize)
     }
 }
 
-// At the front of the output the read of register 0.
+// At the front of the output the read of register 0. Cost: constant.
 fn write_read(out: &mut [u8])
     requires { ⌜ 2 ≤ length (now out) ⌝ }
     ensures { λ _. ⌜ now (out .exit) ≡ placed 0 (opsBytes readZero) (now (out .entry)) ⌝ }
@@ -78,7 +78,7 @@ fn write_read(out: &mut [u8])
     out[1] = 0;
 }
 
-// At the front of the output p operations, which write 0 to the registers 1 to p.
+// At the front of the output p operations, which write 0 to the registers 1 to p. Cost: p.
 fn write_clearing(out: &mut [u8], p: usize)
     requires { ⌜ (p ≤ 8) × (2 * p ≤ length (now out)) ⌝ }
     ensures { λ _. ⌜ now (out .exit) ≡ placed 0 (opsBytes (map (λ (i : ℕ). writes i 0) (countFrom 1 p))) (now (out .entry)) ⌝ }

@@ -12,7 +12,7 @@ use file_fields::fields::byte;
 use file_fields::fields::operation_kind;
 use file_fields::fields::operation_register;
 
-// Whether the two bytes at a place are an operation.
+// Whether the two bytes at a place are an operation. Cost: constant.
 fn is_operation(c: Counts, s: &[u8], at: usize) -> bool
     requires { ⌜ at + 1 < length (now s) ⌝ }
     ensures { λ r. ⌜ r ≡ wellOp c (getD (now (s .entry)) at 0) (getD (now (s .entry)) (at + 1) 0) ⌝ }
@@ -31,7 +31,7 @@ fn is_operation(c: Counts, s: &[u8], at: usize) -> bool
         & ((register != 0) | ((kind == 0) & (symbol == 0)))
 }
 
-// Whether the p pairs of bytes at the front are operations.
+// Whether the p pairs of bytes at the front are operations. Cost: at most p.
 fn are_operations(c: Counts, s: &[u8], p: usize) -> bool
     requires { ⌜ 2 * p ≤ length (now s) ⌝ }
     ensures { λ r. ⌜ r ≡ wellOps c p (now (s .entry)) ⌝ }
@@ -46,7 +46,7 @@ fn are_operations(c: Counts, s: &[u8], p: usize) -> bool
     true
 }
 
-// How many of the p pairs of bytes at the front are operations, up to the first that is none.
+// How many of the p pairs of bytes at the front are operations, up to the first that is none. Cost: at most p.
 fn operations_front(c: Counts, s: &[u8], p: usize) -> usize
     requires { ⌜ 2 * p ≤ length (now s) ⌝ }
     ensures { λ r. ⌜ r ≡ opsFront c p (now (s .entry)) ⌝ }
@@ -61,7 +61,7 @@ fn operations_front(c: Counts, s: &[u8], p: usize) -> usize
     i
 }
 
-// Whether the four bytes at the front begin an arc: from, letter, to, number of operations.
+// Whether the four bytes at the front begin an arc: from, letter, to, number of operations. Cost: constant.
 fn are_fields(c: Counts, s: &[u8]) -> bool
     requires { ⌜ 4 ≤ length (now s) ⌝ }
     ensures { λ r. ⌜ r ≡ allHold true (fieldTests c 0 (now (s .entry))) ⌝ }
@@ -75,7 +75,7 @@ fn are_fields(c: Counts, s: &[u8]) -> bool
 }
 
 // The fault of the first of the four bytes at the front that is out of its range, else the counts. Called only where one is. The
-// arc stands at the place `at` of the file.
+// arc stands at the place `at` of the file. Cost: constant.
 fn field_fault(c: Counts, s: &[u8], at: usize) -> Reading
     requires { ⌜ (4 ≤ length (now s)) × (at + length (now s) < 18446744073709551616) ⌝ }
     ensures { λ r. ⌜ r ≡ firstFault (fieldTests c at (now (s .entry))) c ⌝ }
@@ -97,7 +97,7 @@ fn field_fault(c: Counts, s: &[u8], at: usize) -> Reading
     Reading::Valid(c)
 }
 
-// Whether the arc at the front has no fault.
+// Whether the arc at the front has no fault. Cost: at most its operations.
 fn is_arc(c: Counts, s: &[u8]) -> bool
     ensures { λ r. ⌜ r ≡ allHold true (arcTests c 0 (now (s .entry))) ⌝ }
 {
@@ -114,6 +114,7 @@ fn is_arc(c: Counts, s: &[u8]) -> bool
 }
 
 // The first fault of the arc at the front, else the counts. The arc stands at the place `at` of the file.
+// Cost: at most its operations.
 fn arc_fault(c: Counts, s: &[u8], at: usize) -> Reading
     requires { ⌜ at + length (now s) < 18446744073709551616 ⌝ }
     ensures { λ r. ⌜ r ≡ firstFault (arcTests c at (now (s .entry))) c ⌝ }
@@ -137,6 +138,7 @@ fn arc_fault(c: Counts, s: &[u8], at: usize) -> Reading
 }
 
 // Whether the arcs from a place on have no fault, and nothing is after them.
+// Cost: one pass over them, up to the first that has a fault.
 fn are_arcs(c: Counts, file: &[u8], from: usize) -> bool
     requires { ⌜ from ≤ length (now file) ⌝ }
     ensures { λ r. ⌜ r ≡ allHold true (arcsTests (c .arcs) c from (drop from (now (file .entry)))) ⌝ }
@@ -154,7 +156,7 @@ fn are_arcs(c: Counts, file: &[u8], from: usize) -> bool
 }
 
 // The first fault of the arcs from a place on and of what is after them, else the counts. Called only where there is one: looking for
-// its place in a pass of its own costs a file without a fault nothing.
+// its place in a pass of its own costs a file without a fault nothing. Cost: one pass over them, up to the fault.
 fn arcs_fault(c: Counts, file: &[u8], from: usize) -> Reading
     requires { ⌜ from ≤ length (now file) ⌝ }
     ensures { λ r. ⌜ r ≡ firstFault (arcsTests (c .arcs) c from (drop from (now (file .entry)))) c ⌝ }
@@ -176,6 +178,7 @@ fn arcs_fault(c: Counts, file: &[u8], from: usize) -> Reading
 }
 
 // The counts, or the first fault of the arcs from a place on and of what is after them.
+// Cost: one pass over them, and a second one, up to the fault, where there is one.
 pub fn read_arcs(c: Counts, file: &[u8], from: usize) -> Reading
     requires { ⌜ from ≤ length (now file) ⌝ }
     ensures { λ r. ⌜ r ≡ firstFault (arcsTests (c .arcs) c from (drop from (now (file .entry)))) c ⌝ }

@@ -144,6 +144,7 @@ abbrev pub arcTests : Counts → ℕ → List ℕ → List (Bool × ℕ × ℕ)
 arcTests c at l = (leb 4 (length l), 1, at) ∷ (fieldTests c at l ++ operationTests c at l)
 
 -- ---- m arcs; 9 bytes after the last arc, where they begin
+-- of the arcs at the front of l, which stands at the place `at`, each before the next is looked at
 unfoldable pub arcsTests : ℕ → Counts → ℕ → List ℕ → List (Bool × ℕ × ℕ)
 unfolding wellOps opsFront
 arcsTests zero c at l = (leb (length l) 0, 9, at) ∷ []

@@ -10,7 +10,7 @@ use super::Reading;
 use super::fields::byte;
 use super::fields::double;
 
-// Whether the mark is MLB.
+// Whether the mark is MLB. Cost: constant.
 fn has_mark(file: &[u8]) -> bool
     requires { ⌜ 12 ≤ length (now file) ⌝ }
     ensures { λ r. ⌜ r ≡ marked (now (file .entry)) ⌝ }
@@ -37,7 +37,7 @@ pub fn read_counts(file: &[u8]) -> Counts
     }
 }
 
-// Whether each count is in its range.
+// Whether each count is in its range. Cost: constant.
 fn in_range(c: Counts) -> bool
     ensures { λ r. ⌜ r ≡ allHold true (countTests c) ⌝ }
 {
@@ -48,14 +48,14 @@ fn in_range(c: Counts) -> bool
         & (c.arcs <= 2048)
 }
 
-// Whether a count lies between two others.
+// Whether a count lies between two others. Cost: constant.
 fn within(low: usize, count: usize, high: usize) -> bool
     ensures { λ r. ⌜ r ≡ (leb low count && leb count high) ⌝ }
 {
     (low <= count) & (count <= high)
 }
 
-// The fault of the first count that is out of its range, else the counts. Called only where one is.
+// The fault of the first count that is out of its range, else the counts. Called only where one is. Cost: constant.
 fn count_fault(c: Counts) -> Reading
     ensures { λ r. ⌜ r ≡ firstFault (countTests c) c ⌝ }
 {
@@ -77,7 +77,7 @@ fn count_fault(c: Counts) -> Reading
     Reading::Valid(c)
 }
 
-// The counts, or the header's first fault.
+// The counts, or the header's first fault. Cost: constant.
 pub fn read_header(file: &[u8]) -> Reading
     ensures { λ r. ⌜ r ≡ firstFault (headerTests (now (file .entry))) (countsOf (now (file .entry))) ⌝ }
 {

@@ -1,6 +1,8 @@
 -- Laws: the laws of this crate that crates above cite. A law that is not named here may change.
 -- what a caller may rely on, of any list of bytes s that `read` is handed and of any automaton x
 pub use Rattle.file_laws.proofs.Promise.{number-range, place-inside, round-trip, valid-automaton}
+-- of a file with a fault behind its header, the counts are in their ranges
+pub use Rattle.file_laws.proofs.PlaceLaws.{behind-header}
 -- where each test decides its condition, the first test that holds is the first condition that holds (format's specs/Refusals.antt)
 pub use Rattle.file_laws.proofs.Refusals.{Decide, Decides, NoneHolds, Outcome, at-least, decided, fault-decided, first-exactly, first-some, has-fault, less-decided, less-iff, letters-decided, no-fault, none-first, reach-decided, refused-or-not, same-letters}
 -- what is so of a valid file: its automaton has the counts that reading answers and is within the limits, its arcs stand whole, and it is no longer than 41,292 bytes

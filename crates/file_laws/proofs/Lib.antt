@@ -8,6 +8,7 @@ pub mod ValidLaws
 pub mod EncodingLaws
 pub mod CanonicalLaws
 pub mod FaultLaws
+pub mod WantedLaws
 pub mod PlaceLaws
 pub mod FrontLaws
 pub mod ArcLaws

@@ -1,16 +1,19 @@
--- PlaceLaws: the place of a fault lies in the file, or is its end.
+-- PlaceLaws: the place of a fault lies in the file, or is its end; and where it is behind the header, the header has no fault.
 use mathlib.Core.Path.{_≡_, refl}
 use mathlib.Core.Bool.{Bool, true, false, cond}
 use mathlib.Core.List.{List, [], _∷_, _++_}
-use Prim.Native.Nat.{ℕ, zero, suc, _+_, _≤_}
+use Prim.Native.Nat.{ℕ, zero, suc, _+_, _<_, _≤_}
 use native.Mathlib.Omega.{arith}
 use borrow.Author.Tests.{leb-true}
 use lib.Dec.{leb, ltb}
 use lib.ListN.{length, getD, drop, length-drop}
 use Rattle.file_fields.specs.declared.Counts.{Counts}
 use Rattle.file_fields.specs.declared.Reading.the-variants.{Refused}
-use Rattle.file_fields.specs.Parts.{countsOf, letterBytes, flagBytes, firstArc, ascendingFront, flagsFront, wellOp, opsFront, arcSize, arcTests, arcsTests, headerTests, letterTests, flagTests, firstFault}
+use Rattle.file_fields.specs.Parts.{countsOf, letterBytes, flagBytes, firstArc, ascendingFront, flagsFront, wellOp, opsFront, arcSize, arcTests, arcsTests, headerTests, firstFault}
 use Rattle.format.specs.Reading.{bodyTests, fileTests, readingOf}
+use Rattle.format.specs.Limits.{Ranges}
+use Rattle.format.proofs.Laws.{header-seen}
+use Rattle.automata.specs.Lists.{Each}
 use Rattle.file_fields.proofs.Laws.{Hold, flags-length, letters-length}
 use Rattle.file_arcs.proofs.Laws.{arc-seen}
 
@@ -57,6 +60,13 @@ unfolding firstFault
 inside-place n [] c h e = let z : _≡_ {A = ℕ} 0 1 = cc in absurd (omega arith)
 inside-place n ((true, k, q) ∷ l) c h e = inside-place n l c (h .1 refl) e
 inside-place n ((false, k, q) ∷ l) c {place = place} h e = let same : q ≡ place = cc in omega (arith, h .0)
+
+-- tests with places below k hold where the fault's place isn't
+below-hold : (k : ℕ) (l r : List (Bool × ℕ × ℕ)) (c : Counts) {n place : ℕ} → Each (λ t. t .2 < k) l → k ≤ place → firstFault (l ++ r) c ≡ Refused n place → Hold l
+unfolding firstFault
+below-hold k [] r c h b e = tt
+below-hold k ((true, m, q) ∷ l) r c h b e = (refl, below-hold k l r c (h .1) b e)
+below-hold k ((false, m, q) ∷ l) r c {place = place} h b e = let same : q ≡ place = cc in absurd (omega (arith, h .0))
 
 arcs-inside : (n : ℕ) (c : Counts) (m at : ℕ) (l : List ℕ) → at + length l ≡ n → Inside n (arcsTests m c at l)
 unfolding arcsTests
@@ -114,3 +124,9 @@ module _ (s : List ℕ) where
   unfolding readingOf
   place-most e =
       inside-place (length s) (fileTests s) (countsOf s) (inside-append (length s) (headerTests s) (bodyTests (countsOf s) s) header-inside (λ h. body-inside (countsOf s) (leb-true 12 (length s) (h .0)))) e
+
+  pub behind-header : {n place : ℕ} → readingOf s ≡ Refused n place → 12 ≤ place → Ranges (countsOf s)
+  unfolding readingOf
+  behind-header e b =
+      let places : Each (λ t. t .2 < 12) (headerTests s) = (omega arith, (omega arith, (omega arith, (omega arith, (omega arith, (omega arith, (omega arith, (omega arith, tt)))))))) in
+      header-seen s (below-hold 12 (headerTests s) (bodyTests (countsOf s) s) (countsOf s) places b e) .ranges

@@ -5,20 +5,20 @@ use mathlib.Core.Logic.{_↔_, _⊎_, _≢_, inl, inr}
 use mathlib.Core.List.{List, _++_}
 use Prim.Native.Nat.{ℕ, _≤_, _<_}
 use native.Mathlib.Omega.{arith}
-use borrow.Author.Tests.{leb-true}
-use lib.Dec.{leb}
 use lib.ListN.{length}
 use Rattle.automata.specs.Automaton.{Automaton, WellFormed}
 use Rattle.file_fields.specs.declared.Counts.{Counts}
 use Rattle.file_fields.specs.declared.Reading.{Reading}
 use Rattle.file_fields.specs.declared.Reading.the-variants.{Valid, Refused}
-use Rattle.file_fields.specs.Parts.{countsOf}
-use Rattle.format.specs.Reading.{fileTests, readingOf, told}
+use Rattle.format.specs.Reading.{readingOf, told}
+use Rattle.format.specs.Refusals.{FirstHolds}
 use Rattle.format.specs.Decoding.{automatonOf}
 use Rattle.format.specs.Encoding.{sizes, bytesOf}
 use Rattle.format.specs.Limits.{Fits, Bytes}
-use Rattle.file_fields.proofs.Laws.{Hold, and-both, hold-valid, valid-hold}
-use Rattle.file_laws.proofs.FaultLaws.{FirstFails, refused-first, first-refused, refused-number, Known, tests-known}
+use Rattle.file_laws.specs.Wanted.{faults}
+use Rattle.file_laws.proofs.FaultLaws.{number-known}
+use Rattle.file_laws.proofs.Refusals.{first-exactly}
+use Rattle.file_laws.proofs.WantedLaws.{file-first}
 use Rattle.file_laws.proofs.PlaceLaws.{place-most}
 use Rattle.file_laws.proofs.FrontLaws.{shorter-refused, longer-refused}
 use Rattle.file_laws.proofs.ValidLaws.{valid-sizes, valid-fits, valid-longest, valid-wellFormed}
@@ -45,49 +45,44 @@ refused-exactly s b = (λ q x h e. never (q .2) (bytes-valid x h) e, λ none. ei
 
 -- The number of a refusal is one of 1 to 9.
 pub number-range : (s : List ℕ) (n : ℕ) {place : ℕ} → readingOf s ≡ Refused n place → (1 ≤ n) × (n ≤ 9)
-unfolding readingOf
-number-range s n e =
-    let b = and-both (leb 1 n) (leb n 9) (refused-number Known (fileTests s) (countsOf s) (tests-known s) e) in
-    (leb-true _ _ (b .0), leb-true _ _ (b .1))
+number-range s n e = number-known s n e
 
--- A file is refused with n at a place exactly if these are the number and the place of the first of its tests that fails: those
--- before it hold.
-pub number-exactly : (s : List ℕ) (n place : ℕ) → (readingOf s ≡ Refused n place) ↔ FirstFails n place (fileTests s)
-unfolding readingOf
-number-exactly s n place = (refused-first (fileTests s) (countsOf s), first-refused (fileTests s) (countsOf s))
+-- What is told of a file: the number n at a place exactly if these are the number and the place of its first fault (specs/Wanted.antt), or
+-- both are 0 and it has none; and the automaton at fault is 1, the one file handed in, where it has one, else 0.
+pub told-exactly : (s : List ℕ) (n b place : ℕ)
+    → let t = told (readingOf s) in ((t .number ≡ n) × (t .at-fault ≡ b) × (t .place ≡ place))
+    ↔ (FirstHolds (faults s) n place × (((n ≡ 0) × (b ≡ 0)) ⊎ ((0 < n) × (b ≡ 1))))
+told-exactly s n b place =
+    let first = first-exactly (faults s) (file-first s) n place in (
+      λ t. (first .0 (t .0, t .2), whose (readingOf s) refl (t .0) (t .1)),
+      λ f. let t = first .1 (f .0) in (t .0, named (readingOf s) refl (t .0) (f .1), t .1),
+    )
+  where
+    whose : (r : Reading) → readingOf s ≡ r → told r .number ≡ n → told r .at-fault ≡ b → ((n ≡ 0) × (b ≡ 0)) ⊎ ((0 < n) × (b ≡ 1))
+    whose (Valid c) e p q = inl (sym p, sym q)
+    whose (Refused k at) e p q = inr (omega (arith, number-known s k e .0), sym q)
+
+    named : (r : Reading) → readingOf s ≡ r → told r .number ≡ n → ((n ≡ 0) × (b ≡ 0)) ⊎ ((0 < n) × (b ≡ 1)) → told r .at-fault ≡ b
+    named (Valid c) e p (inl h) = sym (h .1)
+    named (Valid c) e p (inr h) = absurd (omega (arith, h .0))
+    named (Refused k at) e p (inl h) = absurd (omega (arith, h .0, number-known s k e .0))
+    named (Refused k at) e p (inr h) = sym (h .1)
+
+-- A file is refused with n at a place exactly if these are the number and the place of its first fault.
+pub number-exactly : (s : List ℕ) (n place : ℕ) → (readingOf s ≡ Refused n place) ↔ ((0 < n) × FirstHolds (faults s) n place)
+number-exactly s n place =
+    let first = first-exactly (faults s) (file-first s) n place in (
+      λ e. (number-known s n e .0, first .0 (ap (λ (r : Reading). told r .number) e, ap (λ (r : Reading). told r .place) e)),
+      λ f. let t = first .1 (f .1) in refused (readingOf s) refl (t .0) (t .1) (f .0),
+    )
+  where
+    refused : (r : Reading) → readingOf s ≡ r → told r .number ≡ n → told r .place ≡ place → 0 < n → readingOf s ≡ Refused n place
+    refused (Valid c) e p q h = absurd (omega (arith, p))
+    refused (Refused k at) e p q h = e ∙ ap₂ Refused p q
 
 -- The place of a fault lies in the file, or is its end.
 pub place-inside : (s : List ℕ) (n place : ℕ) → readingOf s ≡ Refused n place → place ≤ length s
 place-inside s n place e = place-most s e
-
--- What is told of a file: the number n, the automaton b at fault and the place exactly if the first of its tests that fails has that
--- number and that place, and b is 1, the one file handed in; where none fails, all three are 0.
-pub told-exactly : (s : List ℕ) (n b place : ℕ)
-    → ((told (readingOf s) .number ≡ n) × (told (readingOf s) .at-fault ≡ b) × (told (readingOf s) .place ≡ place))
-    ↔ ((FirstFails n place (fileTests s) × (b ≡ 1)) ⊎ (Hold (fileTests s) × (n ≡ 0) × (b ≡ 0) × (place ≡ 0)))
-unfolding readingOf
-told-exactly s n b place = go (readingOf s) refl
-  where
-    Tests : Type 0
-    Tests = (FirstFails n place (fileTests s) × (b ≡ 1)) ⊎ (Hold (fileTests s) × (n ≡ 0) × (b ≡ 0) × (place ≡ 0))
-
-    first : FirstFails n place (fileTests s) → readingOf s ≡ Refused n place
-    first = first-refused (fileTests s) (countsOf s)
-
-    valid : Hold (fileTests s) → readingOf s ≡ Valid (countsOf s)
-    valid = hold-valid (fileTests s) (countsOf s)
-
-    go : (r : Reading) → readingOf s ≡ r → ((told r .number ≡ n) × (told r .at-fault ≡ b) × (told r .place ≡ place)) ↔ Tests
-    go (Valid c) e = (λ t. inr (valid-hold (fileTests s) (countsOf s) e .0, sym (t .0), sym (t .1), sym (t .2)), back)
-      where
-        back : Tests → (0 ≡ n) × (0 ≡ b) × (0 ≡ place)
-        back (inl f) = let g = first (f .0) in let z : _≡_ {A = ℕ} 0 1 = cc in absurd (omega arith)
-        back (inr h) = (sym (h .1), sym (h .2), sym (h .3))
-    go (Refused k q) e = (λ t. inl (refused-first (fileTests s) (countsOf s) (e ∙ ap₂ Refused (t .0) (t .2)), sym (t .1)), back)
-      where
-        back : Tests → (k ≡ n) × (1 ≡ b) × (q ≡ place)
-        back (inl f) = let g = first (f .0) in (cc, sym (f .1), cc)
-        back (inr h) = let g = valid (h .0) in let z : _≡_ {A = ℕ} 0 1 = cc in absurd (omega arith)
 
 -- A valid file of which the end is missing is refused with 1 ..
 pub cut-short : (s t : List ℕ) (c : Counts) → 0 < length t → readingOf (s ++ t) ≡ Valid c → (place : ℕ) × (readingOf s ≡ Refused 1 place)

@@ -14,8 +14,8 @@ pub enum Files {
     Fault(u8, u8),
 }
 
-// Whether two lists of letters are the same bytes. Cost: the bytes up to the first that differs.
-fn same_bytes(left: &[u8], right: &[u8]) -> bool
+// Whether two lists are the same bytes. Refuses nothing. Cost: the bytes up to the first that differs.
+pub fn same_bytes(left: &[u8], right: &[u8]) -> bool
     ensures { λ r. ⌜ r ≡ sameBy eqb (now (left .entry)) (now (right .entry)) ⌝ }
 {
     if left.len() != right.len() {

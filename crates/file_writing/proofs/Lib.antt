@@ -1,3 +1,4 @@
 pub mod Placed
 pub mod FileParts
+pub mod Answers
 pub mod Laws

@@ -16,7 +16,7 @@ pub fn write_byte(out: &mut [u8], at: usize, byte: u8) -> usize
     at + 1
 }
 
-// A two-byte number, the low byte first.
+// A two-byte number, the low byte first. Cost: constant.
 fn write_double(out: &mut [u8], at: usize, number: usize) -> usize
     requires { ⌜ (number < 65536) × (at + 2 ≤ length (now out)) ⌝ }
     ensures { λ r. ⌜ Appended at ((number % 256) ∷ (number / 256) ∷ []) (now (out .entry)) (now (out .exit)) r ⌝ }
@@ -26,7 +26,7 @@ fn write_double(out: &mut [u8], at: usize, number: usize) -> usize
     at + 2
 }
 
-// The mark MLB and version 1.
+// The mark MLB and version 1. Cost: constant.
 fn write_mark(out: &mut [u8], at: usize) -> usize
     requires { ⌜ at + 5 ≤ length (now out) ⌝ }
     ensures { λ r. ⌜ Appended at (0x4D ∷ 0x4C ∷ 0x42 ∷ 1 ∷ 0 ∷ []) (now (out .entry)) (now (out .exit)) r ⌝ }

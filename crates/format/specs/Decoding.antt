@@ -38,6 +38,7 @@ arcsOf (suc m) l = arcOf l ∷ arcsOf m (drop (arcSize l) l)
 abbrev pub isFinal : ℕ → Bool
 isFinal x = eqb x 1
 
+-- the automaton of a file with the counts c: its letters, its final flags, and its arcs behind them
 unfoldable pub decoded : Counts → List ℕ → Automaton
 unfolding arcsOf
 decoded c s = record {
@@ -48,6 +49,7 @@ decoded c s = record {
   arcs = arcsOf (c .arcs) (drop (firstArc c) s);
 }
 
+-- with the counts that its own header says
 unfoldable pub automatonOf : List ℕ → Automaton
 unfolding decoded
 automatonOf s = decoded (countsOf s) s

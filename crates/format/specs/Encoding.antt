@@ -21,6 +21,7 @@ abbrev pub flagByte : Bool → ℕ
 flagByte true = 1
 flagByte false = 0
 
+-- 0 reads, 1 writes
 abbrev pub kind : Op → ℕ
 kind (reads i γ) = 0
 kind (writes i γ) = 1
@@ -29,6 +30,7 @@ kind (writes i γ) = 1
 abbrev pub opBytes : Op → List ℕ
 opBytes o = (kind o * 16 + register o) ∷ symbol o ∷ []
 
+-- operations one behind the other
 unfoldable pub opsBytes : List Op → List ℕ
 opsBytes [] = []
 opsBytes (o ∷ os) = opBytes o ++ opsBytes os
@@ -43,11 +45,13 @@ unfoldable pub arcBytes : Arc → List ℕ
 unfolding opsBytes
 arcBytes x = x .source ∷ letterByte (x .letter) ∷ x .target ∷ length (x .ops) ∷ opsBytes (x .ops)
 
+-- arcs one behind the other
 unfoldable pub arcsBytes : List Arc → List ℕ
 unfolding arcBytes
 arcsBytes [] = []
 arcsBytes (x ∷ l) = arcBytes x ++ arcsBytes l
 
+-- the whole file: header, letters, final flags, arcs
 unfoldable pub bytesOf : Automaton → List ℕ
 unfolding headerBytes arcsBytes
 bytesOf x = headerBytes (sizes x) ++ (x .alphabet ++ (map flagByte (x .finals) ++ arcsBytes (x .arcs)))

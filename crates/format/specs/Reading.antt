@@ -18,6 +18,7 @@ bodyTests c s = letterTests c s ++ (flagTests c s ++ arcsTests (c .arcs) c (firs
 abbrev pub fileTests : List ℕ → List (Bool × ℕ × ℕ)
 fileTests s = headerTests s ++ bodyTests (countsOf s) s
 
+-- the counts of a file all of whose tests hold, else the number and the place of the first that fails
 unfoldable pub readingOf : List ℕ → Reading
 unfolding ascending ascendingFront flags flagsFront arcsTests firstFault
 readingOf s = firstFault (fileTests s) (countsOf s)
@@ -30,6 +31,7 @@ pub record Told : Type 0 where
   pub place : ℕ
   pub counts : Counts
 
+-- what an answer tells; the counts are 0 where the file has a fault
 abbrev pub told : Reading → Told
 told (Valid c) = record { number = 0; at-fault = 0; place = 0; counts = c }
 told (Refused n place) =

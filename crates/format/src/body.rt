@@ -7,8 +7,10 @@ ghost use Rattle.format.specs.Reading.{bodyTests};
 use file_arcs::read_arcs;
 use file_fields::Counts;
 use file_fields::Reading;
+use file_fields::fields::first_arc;
+use file_fields::fields::flags_at;
 
-// Whether the bytes ascend strictly.
+// Whether the bytes ascend strictly. Cost: one pass, up to the first that is not above the one before it.
 fn is_ascending(s: &[u8]) -> bool
     ensures { λ r. ⌜ r ≡ ascending (now (s .entry)) ⌝ }
 {
@@ -22,7 +24,7 @@ fn is_ascending(s: &[u8]) -> bool
     true
 }
 
-// How many bytes at the front ascend strictly. Called only where not all do.
+// How many bytes at the front ascend strictly. Called only where not all do. Cost: one pass over them.
 fn ascending_front(s: &[u8]) -> usize
     ensures { λ r. ⌜ (r ≡ ascendingFront (now (s .entry))) × (r ≤ length (now (s .entry))) ⌝ }
 {
@@ -36,7 +38,7 @@ fn ascending_front(s: &[u8]) -> usize
     s.len()
 }
 
-// How many bytes at the front are 00 or 01.
+// How many bytes at the front are 00 or 01. Cost: one pass over them.
 fn flags_front(s: &[u8]) -> usize
     ensures { λ r. ⌜ r ≡ flagsFront (now (s .entry)) ⌝ }
 {
@@ -51,18 +53,19 @@ fn flags_front(s: &[u8]) -> usize
 }
 
 // The counts, or the first fault after the header.
+// Cost: one pass over the bytes, and a second one over the letters or the arcs where one of these has the fault.
 pub fn read_body(c: Counts, file: &[u8]) -> Reading
     requires { ⌜ (c .letters ≤ 64) × (c .states ≤ 256) ⌝ }
     ensures { λ r. ⌜ r ≡ firstFault (bodyTests c (now (file .entry))) c ⌝ }
 {
-    let flags = 12 + c.letters;
+    let flags = flags_at(c);
     if file.len() < flags {
         return Reading::Refused(1, 12);
     }
     if !is_ascending(&file[12..flags]) {
         return Reading::Refused(5, 12 + ascending_front(&file[12..flags]));
     }
-    let arcs = flags + c.states;
+    let arcs = first_arc(c);
     if file.len() < arcs {
         return Reading::Refused(1, flags);
     }

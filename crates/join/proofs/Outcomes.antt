@@ -19,6 +19,7 @@ use Rattle.file_fields.specs.Parts.{numberOf}
 use Rattle.format.specs.Refusals.{FirstHolds, faultOf}
 use Rattle.file_laws.proofs.Laws.{Decide, Decides, NoneHolds, Outcome, at-least, decided, fault-decided, first-exactly, first-some, less-decided, letters-decided, no-fault, none-first, refused-or-not, round-trip, same-letters, valid-fits}
 use Rattle.file_writing.specs.Answers.{outputOf, told}
+use Rattle.file_writing.proofs.Laws.{refusal-sizeless}
 use Rattle.file_writing.specs.declared.Written.{Written}
 use Rattle.file_writing.specs.declared.Written.the-variants.{Bytes, Refused}
 use Rattle.join_parts.specs.Joining.{beyond, closeRefusals, closedOf, joinRefusals, joinedOf}
@@ -63,6 +64,7 @@ module _ (cs : List (Type 0 × ℕ × ℕ)) (Ready : Type 0) (x : Automaton) (Wo
       size = λ z. absurd (omega arith);
       file = λ z. absurd (omega arith);
       unchanged = λ _. refl;
+      sizeless = λ _. refusal-sizeless n b;
       none = (λ z. absurd (omega arith), λ a. absurd (first-some cs n b pos f (none .1 a)));
       refuses = first-exactly cs f;
     }
@@ -72,6 +74,7 @@ module _ (cs : List (Type 0 × ℕ × ℕ)) (Ready : Type 0) (x : Automaton) (Wo
       size = λ _. refl;
       file = λ _. file a;
       unchanged = λ q. absurd (q refl);
+      sizeless = λ q. absurd (q refl);
       none = (λ _. a, λ _. refl);
       refuses = first-exactly cs (none-first cs (none .1 a));
     }

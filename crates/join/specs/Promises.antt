@@ -50,12 +50,14 @@ closeConditions file x space =
     ∷ []
 
 -- ---- what is promised of a call with these conditions; `Ready`: no file is at fault, and 10 does not hold
+-- the joined automaton is x, the words that it is to accept are `Words`, the output was `old` and is `out`
 pub record Promised (conditions : List (Type 0 × ℕ × ℕ)) (Ready : Type 0) (x : Automaton) (Words : List ℕ → Type 0) (old out : List ℕ) (t : Told) : Type 0 where
   -- where nothing is refused, the file is there, and its length is told
   pub size : t .number ≡ 0 → t .size ≡ length (bytesOf x)
   pub file : t .number ≡ 0 → FileOf x Words (t .size) old out
-  -- a refusal leaves the output as it was lent
+  -- a refusal leaves the output as it was lent, and tells no length
   pub unchanged : t .number ≢ 0 → out ≡ old
+  pub sizeless : t .number ≢ 0 → t .size ≡ 0
   -- the number is 0 just where nothing is to be refused
   pub none : (t .number ≡ 0) ↔ (Ready × (¬ Beyond x) × (length (bytesOf x) ≤ length old))
   -- each refusal has its number and its automaton at fault just where its condition is the first that holds; where none holds, both are 0

@@ -24,7 +24,7 @@ use join_parts::flags::write_flags;
 use join_parts::groups::write_entry;
 use join_parts::groups::write_moved_arcs;
 
-// The counts of the closure of an automaton with these counts and this number of final states.
+// The counts of the closure of an automaton with these counts and this number of final states. Cost: constant.
 fn closure_counts(a: Counts, finals: usize) -> Counts
     requires { ⌜ Ranges a × (finals ≤ 256) ⌝ }
     ensures { λ r. ⌜ ((x : Automaton) → sizes x ≡ a → length (finalStates 0 (x .finals)) ≡ finals → sizes (closure x) ≡ r) ⌝ }
@@ -38,7 +38,7 @@ fn closure_counts(a: Counts, finals: usize) -> Counts
     }
 }
 
-// How many bytes a return takes that clears the registers of an automaton with n of them.
+// How many bytes a return takes that clears the registers of an automaton with n of them. Cost: constant.
 fn return_size(n: usize) -> usize
     requires { ⌜ n ≤ 8 ⌝ }
     ensures { λ r. ⌜ (r ≡ 4 + 2 * length (clearing n)) × (r ≤ 18) ⌝ }
@@ -47,6 +47,7 @@ fn return_size(n: usize) -> usize
 }
 
 // The arcs of the closure: the added empty move, those of the file, then a return from each final state.
+// Cost: the states, and the bytes written.
 fn write_closure_arcs(out: &mut [u8], at: usize, a: Counts, file: &[u8]) -> usize
     requires { ⌜ (readingOf (now file) ≡ Valid a) × (1 + a .states ≤ 256) × (at + length (arcsBytes (closure (automatonOf (now file)) .arcs)) ≤ length (now out)) ⌝ }
     ensures { λ r. ⌜ Appended at (arcsBytes (closure (automatonOf (now (file .entry))) .arcs)) (now (out .entry)) (now (out .exit)) r ⌝ }
@@ -56,7 +57,7 @@ fn write_closure_arcs(out: &mut [u8], at: usize, a: Counts, file: &[u8]) -> usiz
     write_final_arcs(out, returns, a, file, 1, 1, a.registers)
 }
 
-// The whole closure, with the counts c.
+// The whole closure, with the counts c. Cost: the bytes written.
 fn write_closure(out: &mut [u8], c: Counts, a: Counts, file: &[u8]) -> usize
     requires { ⌜ (readingOf (now file) ≡ Valid a) × (sizes (closure (automatonOf (now file))) ≡ c) × Fits (closure (automatonOf (now file))) × (length (bytesOf (closure (automatonOf (now file)))) ≤ length (now out)) ⌝ }
     ensures { λ r. ⌜ Appended 0 (bytesOf (closure (automatonOf (now (file .entry))))) (now (out .entry)) (now (out .exit)) r ⌝ }
@@ -67,7 +68,7 @@ fn write_closure(out: &mut [u8], c: Counts, a: Counts, file: &[u8]) -> usize
     write_closure_arcs(out, arcs, a, file)
 }
 
-// The closure of a valid file.
+// The closure of a valid file. Cost: the states, and the bytes written.
 pub fn repeat(out: &mut [u8], a: Counts, file: &[u8]) -> Written
     requires { ⌜ readingOf (now file) ≡ Valid a ⌝ }
     ensures answer { λ r. ⌜ r ≡ writtenOf (closure (automatonOf (now (file .entry)))) (length (now (out .entry))) ⌝ }

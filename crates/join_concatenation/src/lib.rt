@@ -24,7 +24,7 @@ use join_parts::finals::write_final_arcs;
 use join_parts::flags::write_flags;
 use join_parts::groups::write_moved_arcs;
 
-// The counts of the concatenation of automata with these counts, the first with this number of final states.
+// The counts of the concatenation of automata with these counts, the first with this number of final states. Cost: constant.
 fn concatenation_counts(a: Counts, finals: usize, b: Counts) -> Counts
     requires { ⌜ Ranges a × (finals ≤ 256) × Ranges b ⌝ }
     ensures { λ r. ⌜ ((x y : Automaton) → sizes x ≡ a → length (finalStates 0 (x .finals)) ≡ finals → sizes y ≡ b → sizes (concatenation x y) ≡ r) ⌝ }
@@ -39,6 +39,7 @@ fn concatenation_counts(a: Counts, finals: usize, b: Counts) -> Counts
 }
 
 // The arcs of the concatenation: those of the first, the added empty moves, then those of the second.
+// Cost: the states of the first, and the bytes written.
 fn write_concatenation_arcs(
     out: &mut [u8],
     at: usize,
@@ -56,7 +57,7 @@ fn write_concatenation_arcs(
     write_moved_arcs(out, right, b, second, a.states, shift)
 }
 
-// The whole concatenation, with the counts c.
+// The whole concatenation, with the counts c. Cost: the bytes written.
 fn write_concatenation(
     out: &mut [u8],
     c: Counts,
@@ -74,7 +75,7 @@ fn write_concatenation(
     write_concatenation_arcs(out, arcs, a, first, b, second)
 }
 
-// The concatenation of two files that are valid and list the same letters.
+// The concatenation of two files that are valid and list the same letters. Cost: the states of the first, and the bytes written.
 pub fn append(out: &mut [u8], a: Counts, first: &[u8], b: Counts, second: &[u8]) -> Written
     requires { ⌜ Joinable a b (now first) (now second) ⌝ }
     ensures answer { λ r. ⌜ r ≡ writtenOf (concatenation (automatonOf (now (first .entry))) (automatonOf (now (second .entry)))) (length (now (out .entry))) ⌝ }

@@ -27,7 +27,7 @@ use join_product_count::count_arcs;
 
 mod finals;
 
-// The counts of the intersection of automata with these counts, but this many arcs.
+// The counts of the intersection of automata with these counts, but this many arcs. Cost: constant.
 fn product_counts(a: Counts, b: Counts, arcs: usize) -> Counts
     requires { ⌜ Ranges a × Ranges b ⌝ }
     ensures { λ r. ⌜ ((x y : Automaton) → sizes x ≡ a → sizes y ≡ b → withArcs arcs (sizes (intersection x y)) ≡ r) ⌝ }
@@ -42,6 +42,7 @@ fn product_counts(a: Counts, b: Counts, arcs: usize) -> Counts
 }
 
 // The arcs of the intersection: joint arcs, the empty moves of the first, then those of the second.
+// Cost: the pairs of arcs, and the bytes written.
 fn write_product_arcs(
     out: &mut [u8],
     at: usize,
@@ -71,7 +72,7 @@ fn write_product_arcs(
     write_empty_moves(out, rights, b, second, right)
 }
 
-// The whole intersection, with the counts c.
+// The whole intersection, with the counts c. Cost: the pairs of arcs, and the bytes written.
 fn write_product(
     out: &mut [u8],
     c: Counts,

@@ -15,7 +15,7 @@ use file_arc_writing::write_clearing_arc;
 use format::Counts;
 use format::fields::flags_at;
 
-// How many of the flags are those of final states.
+// How many of the flags are those of final states. Cost: the flags.
 fn count_flags(flags: &[u8]) -> usize
     ensures { λ r. ⌜ r ≡ length (finalStates 0 (map isFinal (now (flags .entry)))) ⌝ }
 {
@@ -31,6 +31,7 @@ fn count_flags(flags: &[u8]) -> usize
 }
 
 // An empty move from each final state, by its flag, its number moved by s, to the state t; it writes 0 to registers 1 to n - 1.
+// Cost: the flags, and the bytes written.
 fn write_returns(out: &mut [u8], at: usize, flags: &[u8], s: usize, t: usize, n: usize) -> usize
     requires { ⌜ (s + length (now flags) ≤ 256) × (t < 256) × (n ≤ 8) × (at + length (arcsBytes (map (λ (i : ℕ). arcFrom (s + i) none t (clearing n)) (finalStates 0 (map isFinal (now flags))))) ≤ length (now out)) ⌝ }
     ensures { λ r. ⌜ Appended at (arcsBytes (map (λ (i : ℕ). arcFrom (s + i) none t (clearing n)) (finalStates 0 (map isFinal (now (flags .entry)))))) (now (out .entry)) (now (out .exit)) r ⌝ }

@@ -18,7 +18,7 @@ use format::fields::arc_size;
 use format::fields::byte;
 use format::fields::first_arc;
 
-// An added empty move from state 0 to the state t.
+// An added empty move from state 0 to the state t. Cost: constant.
 pub fn write_entry(out: &mut [u8], at: usize, t: usize) -> usize
     requires { ⌜ (t < 256) × (at + 6 ≤ length (now out)) ⌝ }
     ensures { λ r. ⌜ Appended at (arcBytes (emptyMove 0 t)) (now (out .entry)) (now (out .exit)) r ⌝ }
@@ -31,7 +31,7 @@ pub fn write_entry(out: &mut [u8], at: usize, t: usize) -> usize
     write_plain_arc(out, at, f)
 }
 
-// The arc at a place of a file, its states moved by s, its registers from 1 up by k.
+// The arc at a place of a file, its states moved by s, its registers from 1 up by k. Cost: its operations.
 fn write_moved_arc(out: &mut [u8], at: usize, file: &[u8], from: usize, s: usize, k: usize) -> usize
     requires { ⌜ (from + arcSize (drop from (now file)) ≤ length (now file)) × (s + arcOf (drop from (now file)) .source < 256) × (s + arcOf (drop from (now file)) .target < 256) × (k ≤ 8) × (at + arcSize (drop from (now file)) ≤ length (now out)) ⌝ }
     ensures { λ r. ⌜ Appended at (arcBytes (movedArc s k (arcOf (drop from (now (file .entry)))))) (now (out .entry)) (now (out .exit)) r ⌝ }

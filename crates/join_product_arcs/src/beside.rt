@@ -28,7 +28,7 @@ pub struct Beside {
     pub shift: usize,
 }
 
-// The empty move at a place of a file, beside state i.
+// The empty move at a place of a file, beside state i. Cost: its operations.
 fn write_beside(out: &mut [u8], at: usize, file: &[u8], from: usize, b: Beside, i: usize) -> usize
     requires { ⌜ (from + arcSize (drop from (now file)) ≤ length (now file)) × (arcOf (drop from (now file)) .source * b .scale + i * b .step < 256) × (arcOf (drop from (now file)) .target * b .scale + i * b .step < 256) × (b .shift ≤ 8) × (at + arcSize (drop from (now file)) ≤ length (now out)) ⌝ }
     ensures { λ r. ⌜ Appended at (arcBytes (besideArc b (arcOf (drop from (now (file .entry)))) i)) (now (out .entry)) (now (out .exit)) r ⌝ }
@@ -43,7 +43,7 @@ fn write_beside(out: &mut [u8], at: usize, file: &[u8], from: usize, b: Beside, 
     write_arc(out, at, f, &file[ops..], p, b.shift)
 }
 
-// The empty move at a place of a file, beside each state, ascending.
+// The empty move at a place of a file, beside each state, ascending. Cost: the bytes written.
 fn write_beside_each(out: &mut [u8], at: usize, file: &[u8], from: usize, b: Beside) -> usize
     requires { ⌜ (from + arcSize (drop from (now file)) ≤ length (now file)) × ((i : ℕ) → i < b .states → arcOf (drop from (now file)) .source * b .scale + i * b .step < 256) × ((i : ℕ) → i < b .states → arcOf (drop from (now file)) .target * b .scale + i * b .step < 256) × (b .shift ≤ 8) × (at + length (arcsBytes (map (besideArc b (arcOf (drop from (now file)))) (countFrom 0 (b .states)))) ≤ length (now out)) ⌝ }
     ensures { λ r. ⌜ Appended at (arcsBytes (map (besideArc b (arcOf (drop from (now (file .entry))))) (countFrom 0 (b .states)))) (now (out .entry)) (now (out .exit)) r ⌝ }

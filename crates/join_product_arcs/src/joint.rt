@@ -20,7 +20,7 @@ use format::fields::byte;
 use format::fields::first_arc;
 
 // The arc at a place of the first file with the one at a place of the second, which has n states, and whose registers from 1 up
-// move by k.
+// move by k. Cost: the operations of both.
 fn write_joint(
     out: &mut [u8],
     at: usize,
@@ -47,6 +47,7 @@ fn write_joint(
 }
 
 // The arc at a place of the first file with each arc of the second of its letter; an empty move has none.
+// Cost: the arcs of the second, and the bytes written.
 fn write_joint_with(
     out: &mut [u8],
     at: usize,

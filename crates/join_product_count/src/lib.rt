@@ -23,7 +23,7 @@ pub struct Tally {
     pub many: bool,
 }
 
-// The arc at a place of the first file with each arc of the second of its letter.
+// The arc at a place of the first file with each arc of the second of its letter. Cost: the arcs of the second.
 fn count_joint(first: &[u8], from: usize, b: Counts, second: &[u8]) -> Tally
     requires { ⌜ (from + arcSize (drop from (now first)) ≤ length (now first)) × (readingOf (now second) ≡ Valid b) ⌝ }
     ensures { λ r. ⌜ ((n k : ℕ) → Tallied r (jointWith n k (automatonOf (now (second .entry)) .arcs) (arcOf (drop from (now (first .entry)))))) × (r .arcs ≤ 2048) × (r .size ≤ 2097152) ⌝ }

@@ -22,7 +22,7 @@ use join_parts::flags::write_flags;
 use join_parts::groups::write_entry;
 use join_parts::groups::write_moved_arcs;
 
-// The counts of the union of automata with these counts.
+// The counts of the union of automata with these counts. Cost: constant.
 fn union_counts(a: Counts, b: Counts) -> Counts
     requires { ⌜ Ranges a × Ranges b ⌝ }
     ensures { λ r. ⌜ ((x y : Automaton) → sizes x ≡ a → sizes y ≡ b → sizes (union x y) ≡ r) ⌝ }
@@ -36,7 +36,7 @@ fn union_counts(a: Counts, b: Counts) -> Counts
     }
 }
 
-// The arcs of the union: its added empty moves, the arcs of the first, then those of the second.
+// The arcs of the union: its added empty moves, the arcs of the first, then those of the second. Cost: the bytes written.
 fn write_union_arcs(
     out: &mut [u8],
     at: usize,
@@ -55,7 +55,7 @@ fn write_union_arcs(
     write_moved_arcs(out, right, b, second, shift, 0)
 }
 
-// The whole union, with the counts c.
+// The whole union, with the counts c. Cost: the bytes written.
 fn write_union(
     out: &mut [u8],
     c: Counts,
@@ -74,7 +74,7 @@ fn write_union(
     write_union_arcs(out, arcs, a, first, b, second)
 }
 
-// The union of two files that are valid and list the same letters.
+// The union of two files that are valid and list the same letters. Cost: the bytes written.
 pub fn unite(out: &mut [u8], a: Counts, first: &[u8], b: Counts, second: &[u8]) -> Written
     requires { ⌜ Joinable a b (now first) (now second) ⌝ }
     ensures answer { λ r. ⌜ r ≡ writtenOf (union (automatonOf (now (first .entry))) (automatonOf (now (second .entry)))) (length (now (out .entry))) ⌝ }

@@ -17,6 +17,7 @@ use Rattle.file_writing.specs.declared.Written.the-variants.{Bytes, Refused as 
 abbrev pub refusalLine : List ℕ → ℕ → ℕ → List ℕ
 refusalLine answer number automaton = line (answer ∷ decimalOf number ∷ decimalOf automaton ∷ [])
 
+-- with the word that `cases` prints; `bookcompare` has one in capitals
 abbrev pub refusedLine : ℕ → ℕ → List ℕ
 refusedLine number automaton = refusalLine (ascii "refused") number automaton
 

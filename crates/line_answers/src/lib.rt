@@ -7,7 +7,7 @@ use table::Membership;
 ghost use Rattle.line_text.specs.Writing.{Writes};
 ghost use Rattle.line_answers.specs.Lines.{refusalLine, refusedLine, validLine, readingLine, countLine, membershipLine, wroteLine, writtenLine};
 
-// A refusal: a word for it, its number, and the automaton at fault.
+// A refusal: a word for it, its number, and the automaton at fault. Cost: the bytes written.
 pub fn refusal_line(answer: &[u8], number: u8, automaton: u8, out: &mut [u8]) -> usize
     ensures { λ r. ⌜ Writes (refusalLine (now (answer .entry)) number automaton) 0 r (now (out .entry)) (now (out .exit)) ⌝ }
 {
@@ -17,14 +17,14 @@ pub fn refusal_line(answer: &[u8], number: u8, automaton: u8, out: &mut [u8]) ->
     line_text::put_byte(b'\n', out, at)
 }
 
-// A refusal, as the program `cases` tells it.
+// A refusal, as the program `cases` tells it. Cost: the bytes written.
 pub fn refused_line(number: u8, automaton: u8, out: &mut [u8]) -> usize
     ensures { λ r. ⌜ Writes (refusedLine number automaton) 0 r (now (out .entry)) (now (out .exit)) ⌝ }
 {
     refusal_line(b"refused", number, automaton, out)
 }
 
-// A valid file: the counts of its header.
+// A valid file: the counts of its header. Cost: the bytes written.
 fn valid_line(c: Counts, out: &mut [u8]) -> usize
     ensures { λ r. ⌜ Writes (validLine c) 0 r (now (out .entry)) (now (out .exit)) ⌝ }
 {
@@ -37,7 +37,7 @@ fn valid_line(c: Counts, out: &mut [u8]) -> usize
     line_text::put_byte(b'\n', out, at)
 }
 
-// What reading a file answers.
+// What reading a file answers. Cost: the bytes written.
 pub fn reading_line(r: Reading, out: &mut [u8]) -> usize
     ensures { λ n. ⌜ Writes (readingLine r) 0 n (now (out .entry)) (now (out .exit)) ⌝ }
 {
@@ -47,7 +47,7 @@ pub fn reading_line(r: Reading, out: &mut [u8]) -> usize
     }
 }
 
-// A word for the answer, and a number.
+// A word for the answer, and a number. Cost: the bytes written.
 pub fn count_line(answer: &[u8], n: u64, out: &mut [u8]) -> usize
     ensures { λ r. ⌜ Writes (countLine (now (answer .entry)) n) 0 r (now (out .entry)) (now (out .exit)) ⌝ }
 {
@@ -56,7 +56,7 @@ pub fn count_line(answer: &[u8], n: u64, out: &mut [u8]) -> usize
     line_text::put_byte(b'\n', out, at)
 }
 
-// What membership answers.
+// What membership answers. Cost: the bytes written.
 pub fn membership_line(r: Membership, out: &mut [u8]) -> usize
     ensures { λ n. ⌜ Writes (membershipLine r) 0 n (now (out .entry)) (now (out .exit)) ⌝ }
 {
@@ -67,7 +67,7 @@ pub fn membership_line(r: Membership, out: &mut [u8]) -> usize
     }
 }
 
-// A file that was written: the n bytes at the front of the output, or all where there are fewer.
+// A file that was written: the n bytes at the front of the output, or all where there are fewer. Cost: one pass over those n bytes.
 fn wrote_line(file: &[u8], n: usize, out: &mut [u8]) -> usize
     ensures { λ r. ⌜ Writes (wroteLine (now (file .entry)) n) 0 r (now (out .entry)) (now (out .exit)) ⌝ }
 {
@@ -76,7 +76,7 @@ fn wrote_line(file: &[u8], n: usize, out: &mut [u8]) -> usize
     line_text::put_byte(b'\n', out, at)
 }
 
-// What a call that writes a file answers; `file` is the output that it was lent.
+// What a call that writes a file answers; `file` is the output that it was lent. Cost: the bytes written.
 pub fn written_line(r: Written, file: &[u8], out: &mut [u8]) -> usize
     ensures { λ n. ⌜ Writes (writtenLine r (now (file .entry))) 0 n (now (out .entry)) (now (out .exit)) ⌝ }
 {

@@ -4,7 +4,7 @@ use compare::Comparison;
 ghost use Rattle.line_text.specs.Writing.{Writes};
 ghost use Rattle.line_comparison.specs.ComparisonLines.{comparisonCaseLine, comparisonLine, differentLine, sameLine, takerLine, WritesComparison};
 
-// The two accept the same words.
+// The two accept the same words. Cost: the bytes of the line.
 fn same_line(pairs: u64, out: &mut [u8]) -> usize
     ensures { λ r. ⌜ Writes (sameLine pairs) 0 r (now (out .entry)) (now (out .exit)) ⌝ }
 {
@@ -14,6 +14,7 @@ fn same_line(pairs: u64, out: &mut [u8]) -> usize
 }
 
 // The two differ: a word for that, the number of pairs, and the n bytes at the front of `word`, or all where there are fewer.
+// Cost: the bytes of the line.
 fn different_line(answer: &[u8], pairs: u64, word: &[u8], n: usize, out: &mut [u8]) -> usize
     ensures { λ r. ⌜ Writes (differentLine (now (answer .entry)) pairs (now (word .entry)) n) 0 r (now (out .entry)) (now (out .exit)) ⌝ }
 {
@@ -23,7 +24,7 @@ fn different_line(answer: &[u8], pairs: u64, word: &[u8], n: usize, out: &mut [u
     line_text::put_byte(b'\n', out, at)
 }
 
-// The same, where the answer is `one` if automaton 1 accepts the word, else `two`.
+// The same, where the answer is `one` if automaton 1 accepts the word, else `two`. Cost: the bytes of the line.
 fn taker_line(
     one: &[u8],
     two: &[u8],
@@ -42,6 +43,7 @@ fn taker_line(
 }
 
 // What comparing answers, as the program `bookcompare` tells it; the shown word stands at the front of `word`.
+// Cost: the bytes of the line.
 pub fn answer_line(r: Comparison, word: &[u8], out: &mut [u8]) -> usize
     ensures { λ n. ⌜ Writes (comparisonLine r (now (word .entry))) 0 n (now (out .entry)) (now (out .exit)) ⌝ }
 {
@@ -62,6 +64,7 @@ pub fn answer_line(r: Comparison, word: &[u8], out: &mut [u8]) -> usize
 }
 
 // What comparing answers, as the program `cases` tells it; the shown word stands at the front of `word`.
+// Cost: the bytes of the line.
 pub fn case_line(r: Comparison, word: &[u8], out: &mut [u8]) -> usize
     ensures { λ n. ⌜ Writes (comparisonCaseLine r (now (word .entry))) 0 n (now (out .entry)) (now (out .exit)) ⌝ }
 {
@@ -81,6 +84,7 @@ pub fn case_line(r: Comparison, word: &[u8], out: &mut [u8]) -> usize
 }
 
 // Compares two files with the working memory lent, and writes the line of the answer.
+// Cost: that of comparing, and the bytes of the line.
 fn compared_line(
     first: &[u8],
     second: &[u8],

@@ -8,7 +8,7 @@ ghost use lib.ListN.{take};
 ghost use Rattle.line_text.specs.Writing.{Writes};
 ghost use Rattle.line_text.specs.Digits.{decimalOf, digitOf, hexDigits, hexOf};
 
-// One byte.
+// One byte. Cost: constant.
 pub fn put_byte(b: u8, out: &mut [u8], at: usize) -> usize
     ensures { λ r. ⌜ Writes (b ∷ []) at r (now (out .entry)) (now (out .exit)) ⌝ }
 {
@@ -32,7 +32,7 @@ pub fn put(s: &[u8], out: &mut [u8], at: usize) -> usize
     end
 }
 
-// A number in decimal digits.
+// A number in decimal digits. Cost: its digits.
 pub fn decimal(n: u64, out: &mut [u8], at: usize) -> usize
     ensures { λ r. ⌜ Writes (decimalOf n) at r (now (out .entry)) (now (out .exit)) ⌝ }
 {
@@ -44,7 +44,7 @@ pub fn decimal(n: u64, out: &mut [u8], at: usize) -> usize
     put_byte(last, out, end)
 }
 
-// The digit of a number below 16.
+// The digit of a number below 16. Cost: constant.
 fn digit(d: u8) -> u8
     requires { ⌜ d < 16 ⌝ }
     ensures { λ r. ⌜ r ≡ digitOf d ⌝ }
@@ -52,7 +52,7 @@ fn digit(d: u8) -> u8
     if d < 10 { b'0' + d } else { b'a' + (d - 10) }
 }
 
-// One byte in two hexadecimal digits.
+// One byte in two hexadecimal digits. Cost: constant.
 fn hex_byte(b: u8, out: &mut [u8], at: usize) -> usize
     ensures { λ r. ⌜ Writes (hexDigits (b ∷ [])) at r (now (out .entry)) (now (out .exit)) ⌝ }
 {
@@ -83,7 +83,7 @@ pub fn hex(s: &[u8], out: &mut [u8], at: usize) -> usize
     hex_bytes(s, out, at)
 }
 
-// A further field of a line: a space, then a number in decimal digits.
+// A further field of a line: a space, then a number in decimal digits. Cost: its digits.
 pub fn decimal_field(n: u64, out: &mut [u8], at: usize) -> usize
     ensures { λ r. ⌜ Writes (32 ∷ decimalOf n) at r (now (out .entry)) (now (out .exit)) ⌝ }
 {

@@ -3,12 +3,12 @@ use book_console::refusals::say_meaning;
 use book_console::words::say;
 use book_console::words::say_number;
 
-// Does the number mean a refusal?
+// Does the number mean a refusal? Cost: constant.
 fn is_refusal(number: u8) -> bool {
     (number >= 1 && number <= 11) || (number >= 21 && number <= 25)
 }
 
-// The line of a number that means a refusal; of another nothing.
+// The line of a number that means a refusal; of another nothing. Cost: the line.
 fn say_refusal(number: u8) {
     if is_refusal(number) {
         say_number(1, number as u64);
@@ -18,7 +18,7 @@ fn say_refusal(number: u8) {
     }
 }
 
-// Every refusal, one a line.
+// Every refusal, one a line. Cost: the lines.
 fn main() {
     let mut number: u8 = 0;
     while number < 26 {

@@ -2,7 +2,8 @@
 ghost use mathlib.Core.Path.{_≡_};
 ghost use Rattle.registered_automata.specs.Results.{readingFields, membershipFields, writtenFields, comparisonFields};
 
-// The counts of a valid file, with number 0; or the number of the fault, the automaton at fault, which is 1, and counts of 0.
+// The counts of a valid file, with number 0; or the number of the fault, its place in bytes from the file's start, the automaton at
+// fault, which is 1, and counts of 0.
 #[repr(C)]
 pub struct Reading {
     pub letters: u64,
@@ -10,6 +11,7 @@ pub struct Reading {
     pub registers: u64,
     pub symbols: u64,
     pub arcs: u64,
+    pub place: u64,
     pub number: u8,
     pub automaton: u8,
 }
@@ -43,7 +45,7 @@ pub struct Comparison {
     pub taker: u8,
 }
 
-// The struct of what reading answers.
+// The struct of what reading answers. Cost: constant.
 pub fn as_reading(r: format::Reading) -> Reading
     ensures { λ x. ⌜ x ≡ readingFields r ⌝ }
 {
@@ -54,22 +56,24 @@ pub fn as_reading(r: format::Reading) -> Reading
             registers: c.registers as u64,
             symbols: c.symbols as u64,
             arcs: c.arcs as u64,
+            place: 0,
             number: 0,
             automaton: 0,
         },
-        format::Reading::Refused(n, _) => Reading {
+        format::Reading::Refused(n, place) => Reading {
             letters: 0,
             states: 0,
             registers: 0,
             symbols: 0,
             arcs: 0,
+            place: place as u64,
             number: n,
             automaton: 1,
         },
     }
 }
 
-// The struct of what membership answers.
+// The struct of what membership answers. Cost: constant.
 pub fn as_membership(r: table::Membership) -> Membership
     ensures { λ x. ⌜ x ≡ membershipFields r ⌝ }
 {
@@ -95,7 +99,7 @@ pub fn as_membership(r: table::Membership) -> Membership
     }
 }
 
-// The struct of what a call that writes a file answers.
+// The struct of what a call that writes a file answers. Cost: constant.
 pub fn as_written(r: file_writing::Written) -> Written
     ensures { λ x. ⌜ x ≡ writtenFields r ⌝ }
 {
@@ -113,7 +117,7 @@ pub fn as_written(r: file_writing::Written) -> Written
     }
 }
 
-// The struct of what comparing answers.
+// The struct of what comparing answers. Cost: constant.
 pub fn as_comparison(r: compare::Comparison) -> Comparison
     ensures { λ x. ⌜ x ≡ comparisonFields r ⌝ }
 {

@@ -10,14 +10,14 @@ use native.Mathlib.Nat.{le-of-suc-le-suc, not-suc-le-zero}
 use native.Mathlib.Numerals.{add-one}
 use native.Mathlib.Omega.{arith}
 use borrow.Author.Tests.{le-ltb, lt-ltb}
-use lib.Dec.{T, eqb, eqb→eq}
+use lib.Dec.{T}
 use lib.ListN.{getD, getElem?, length}
 use lib.Seq.{take-all}
 use Rattle.automata.specs.Automaton.{Automaton, Configuration, Run, letters, silent, stay}
 use Rattle.automata.specs.Lists.{countFrom}
-use Rattle.automata.specs.Live.{Moves, PlainArc, epsilonClosure, table}
+use Rattle.automata.specs.Live.{Moves, PlainArc, live}
 use Rattle.automata.specs.Unfolding.{configurations, plainAll, plainArcs}
-use Rattle.automata.proofs.Laws.{at-map, at-mem, epsilonClosure-closed, epsilonClosure-iff, first-configuration, getElem?-lt, getElem?-some, iff-trans, in-table, length-rounds, length-table, mem-at, run-below, within}
+use Rattle.automata.proofs.Laws.{at-map, at-mem, first-configuration, getElem?-lt, getElem?-some, iff-trans, mem-at, within}
 use Rattle.table_explore.specs.Explores.{Explores, Walked, exploredOf, startOf}
 use Rattle.word_layout.specs.Layout.{arcsAt, configs, mapEnd, startsAt}
 use Rattle.table_configurations.specs.Tables.{fieldsOf, listed}
@@ -28,10 +28,9 @@ use Rattle.word_fields.specs.Frame.{Kept}
 use Rattle.word_fields.proofs.Laws.{field-same, part-same}
 use Rattle.word_sets.specs.Sets.{εClosedSet, view}
 use Rattle.word_rows.specs.Rows.{Link, Closure, here, next, related, row}
-use Rattle.word_sets.proofs.Laws.{view-is}
-use Rattle.table_sets.proofs.Laws.{held-each}
+use Rattle.table_sets.proofs.Laws.{held-each, row-live}
 use Rattle.table_sets.specs.Stepping.{Among, endAt, startAt}
-use Rattle.table.specs.Words.{Built, Stored}
+use Rattle.table.specs.Built.{Built, Stored}
 use Rattle.table.proofs.PlainPlaces.{before-le, before-rises, source-at}
 
 -- ---- fields
@@ -52,58 +51,58 @@ letter-some (some a) l e h = ap some e
 
 -- ---- rows
 -- where row i holds i and what one empty move leads to, paths through rows are runs of empty moves
-path-run : (k : ℕ) (arcs : List PlainArc) (R : ℕ → ℕ → Bool) → ((a : PlainArc) → List·Memᴰ a arcs → a .target < k)
-    → ((i j : ℕ) → i < k → T (R i j) ↔ ((j ≡ i) ⊎ Moves arcs i none j)) → (i j : ℕ) → i < k → Closure (Link k R) i j ↔ Run (Moves arcs) i [] j
-path-run k arcs R inside f i j h = (λ p. to p, λ r. from h r)
+path-run : (count : ℕ) (arcs : List PlainArc) (R : ℕ → ℕ → Bool) → ((a : PlainArc) → List·Memᴰ a arcs → a .target < count)
+    → ((i j : ℕ) → i < count → T (R i j) ↔ ((j ≡ i) ⊎ Moves arcs i none j)) → (i j : ℕ) → i < count → Closure (Link count R) i j ↔ Run (Moves arcs) i [] j
+path-run count arcs R inside f i j h = (λ p. to p, λ r. from h r)
   where
-    to : {i j : ℕ} → Closure (Link k R) i j → Run (Moves arcs) i [] j
+    to : {i j : ℕ} → Closure (Link count R) i j → Run (Moves arcs) i [] j
     to here = stay
     to (next {i = i} {j = m} l p) = ⊎-elim (λ (e : m ≡ i). rw (← e) (to p)) (λ n. silent n (to p)) ((f i m (l .0)) .0 (l .1))
 
-    from : {i j : ℕ} → i < k → Run (Moves arcs) i [] j → Closure (Link k R) i j
+    from : {i j : ℕ} → i < count → Run (Moves arcs) i [] j → Closure (Link count R) i j
     from h stay = here
     from {i} h (silent {y = m} n r) = next (h, (f i m h) .1 (inr n)) (from (inside _ n) r)
 
 -- ---- an automaton whose walk has ended: its block, and the block once its rows are closed
-module _ (x : Automaton) (L : ℕ) (fits : length (configurations x L) ≤ L) {w w' : List ℕ} {base k p : ℕ} (many : k ≡ length (configurations x L)) (plain : p ≡ length (plainArcs x L)) (few : k ≤ 256)
-    (above : mapEnd ≤ base) (block : Walked x L w base k p) (kept : Kept base (base + 4 * k) w w') (closed : (i j : ℕ) → i < k → T (related w' base i j) ↔ Closure (Link k (related w base)) i j) where
+module _ (x : Automaton) (L : ℕ) (fits : length (configurations x L) ≤ L) {w w' : List ℕ} {base count plain : ℕ} (many : count ≡ length (configurations x L)) (plain-many : plain ≡ length (plainArcs x L)) (few : count ≤ 256)
+    (above : mapEnd ≤ base) (block : Walked x L w base count plain) (kept : Kept base (base + 4 * count) w w') (closed : (i j : ℕ) → i < count → T (related w' base i j) ↔ Closure (Link count (related w base)) i j) where
   abbrev arcs : List PlainArc
   arcs = plainArcs x L
 
-  inside : (a : PlainArc) → List·Memᴰ a arcs → a .target < k
+  inside : (a : PlainArc) → List·Memᴰ a arcs → a .target < count
   inside a m = rw many (within x L fits a m)
 
   -- The closed rows are the runs of empty moves.
-  pub rows-run : (i j : ℕ) → i < k → T (related w' base i j) ↔ Run (Moves (plainArcs x L)) i [] j
-  rows-run i j h = iff-trans (closed i j h) (path-run k arcs (related w base) inside (block .rows) i j h)
+  pub rows-run : (i j : ℕ) → i < count → T (related w' base i j) ↔ Run (Moves (plainArcs x L)) i [] j
+  rows-run i j h = iff-trans (closed i j h) (path-run count arcs (related w base) inside (block .rows) i j h)
 
   -- ---- the listed arcs
-  at-arc : p ≤ 2048 → (n : ℕ) {a : PlainArc} → getElem? arcs n ≡ some a → field w' (arcsAt base) n ≡ listed a
+  at-arc : plain ≤ 2048 → (n : ℕ) {a : PlainArc} → getElem? arcs n ≡ some a → field w' (arcsAt base) n ≡ listed a
   at-arc h n {a} e =
-      let l : n < p = omega (arith, getElem?-lt arcs n e) in
+      let l : n < plain = omega (arith, getElem?-lt arcs n e) in
       let q : some (field w (arcsAt base) n) ≡ some (listed a) =
-      sym (fields-at w (arcsAt base) p n l) ∙ ap (λ (f : List ℕ). getElem? f n) (block .arcs h) ∙ at-map listed arcs n ∙ ap (Option·map listed) e in
+      sym (fields-at w (arcsAt base) plain n l) ∙ ap (λ (f : List ℕ). getElem? f n) (block .arcs h) ∙ at-map listed arcs n ∙ ap (Option·map listed) e in
       field-same w w' (arcsAt base) n (kept .above (arcsAt base + n / 4) (omega arith)) ∙ Option·some-injective (field w (arcsAt base) n) (listed a) q
 
-  start-is : p ≤ 2048 → (s : ℕ) → s < k → startAt w' base s ≡ startOf x L s
+  start-is : plain ≤ 2048 → (s : ℕ) → s < count → startAt w' base s ≡ startOf x L s
   unfolding startAt
   start-is h s l = field-same w w' (startsAt base) s (kept .above (startsAt base + s / 4) (omega arith)) ∙ block .starts h s l
 
-  end-is : p ≤ 2048 → (s : ℕ) → s < k → endAt w' base k p s ≡ startOf x L (suc s)
+  end-is : plain ≤ 2048 → (s : ℕ) → s < count → endAt w' base count plain s ≡ startOf x L (suc s)
   unfolding endAt startOf plainArcs
-  end-is h s l = go (decLt (s + 1) k)
+  end-is h s l = go (decLt (s + 1) count)
     where
-      go : Dec (s + 1 < k) → endAt w' base k p s ≡ startOf x L (suc s)
-      go (yes g) = rw (lt-ltb (s + 1) k g) (start-is h (s + 1) g ∙ ap (startOf x L) (add-one s))
-      go (no g) = rw (le-ltb (s + 1) k (omega arith)) (plain ∙ ap (λ (cs : List Configuration). length (plainAll x (configurations x L) 0 cs)) (sym (take-all (suc s) (configurations x L) (omega arith))))
+      go : Dec (s + 1 < count) → endAt w' base count plain s ≡ startOf x L (suc s)
+      go (yes g) = rw (lt-ltb (s + 1) count g) (start-is h (s + 1) g ∙ ap (startOf x L) (add-one s))
+      go (no g) = rw (le-ltb (s + 1) count (omega arith)) (plain-many ∙ ap (λ (cs : List Configuration). length (plainAll x (configurations x L) 0 cs)) (sym (take-all (suc s) (configurations x L) (omega arith))))
 
   -- Configuration s has the listed arcs from its start to its end.
-  pub placed : p ≤ 2048 → (s n : ℕ) {a : PlainArc} → s < k → getElem? arcs n ≡ some a → ((startAt w' base s ≤ n) × (n < endAt w' base k p s)) ↔ (a .source ≡ s)
+  pub placed : plain ≤ 2048 → (s n : ℕ) {a : PlainArc} → s < count → getElem? arcs n ≡ some a → ((startAt w' base s ≤ n) × (n < endAt w' base count plain s)) ↔ (a .source ≡ s)
   unfolding plainArcs startOf
   placed h s n {a} l e = rw (start-is h s l, end-is h s l) (iff-trans (source-at x (configurations x L) 0 (configurations x L) s n e) (λ q. omega arith, λ q. omega arith))
 
-  covers : letters x ≤ 255 → p ≤ 2048 → (s l j : ℕ) → s < k → l < letters x
-      → Among w' base (startAt w' base s) (endAt w' base k p s) l j ↔ ((t : ℕ) × Moves arcs s (some l) t × Run (Moves arcs) t [] j)
+  covers : letters x ≤ 255 → plain ≤ 2048 → (s l j : ℕ) → s < count → l < letters x
+      → Among w' base (startAt w' base s) (endAt w' base count plain s) l j ↔ ((t : ℕ) × Moves arcs s (some l) t × Run (Moves arcs) t [] j)
   unfolding startOf plainArcs
   covers short h s l j hs hl = (
     λ a. let top : a .at < length arcs = omega (arith, a .high, end-is h s hs, before-le x (configurations x L) 0 (configurations x L) (suc s)) in
@@ -127,7 +126,7 @@ module _ (x : Automaton) (L : ℕ) (fits : length (configurations x L) ≤ L) {w
   )
 
   -- THE LAW of building.
-  pub built : letters x ≤ 255 → Built x L w' base k p
+  pub built : letters x ≤ 255 → Built x L w' base count plain
   unfolding startOf plainArcs
   built short = record {
     many = many;
@@ -138,16 +137,16 @@ module _ (x : Automaton) (L : ℕ) (fits : length (configurations x L) ≤ L) {w
   }
 
 -- ---- from the answer of exploring
-pub explored-few : (x : Automaton) (L k p : ℕ) → Tables k p ≡ exploredOf x L → (length (configurations x L) ≤ L) × (k ≡ length (configurations x L)) × (p ≡ length (plainArcs x L))
+pub explored-few : (x : Automaton) (L count plain : ℕ) → Tables count plain ≡ exploredOf x L → (length (configurations x L) ≤ L) × (count ≡ length (configurations x L)) × (plain ≡ length (plainArcs x L))
 unfolding exploredOf
-explored-few x L k p e = go (decLt L n)
+explored-few x L count plain e = go (decLt L n)
   where
     n : ℕ
     n = length (configurations x L)
 
-    go : Dec (L < n) → (n ≤ L) × (k ≡ n) × (p ≡ length (plainArcs x L))
-    go (yes h) = absurd (let f : Tables k p ≡ TooMany = e ∙ rw (lt-ltb L n h) in let z : _≡_ {A = ℕ} 0 1 = cc in omega arith)
-    go (no h) = let f : Tables k p ≡ Tables n (length (plainArcs x L)) = e ∙ rw (le-ltb L n (omega arith)) in (omega arith, cc, cc)
+    go : Dec (L < n) → (n ≤ L) × (count ≡ n) × (plain ≡ length (plainArcs x L))
+    go (yes h) = absurd (let f : Tables count plain ≡ TooMany = e ∙ rw (lt-ltb L n h) in let z : _≡_ {A = ℕ} 0 1 = cc in omega arith)
+    go (no h) = let f : Tables count plain ≡ Tables n (length (plainArcs x L)) = e ∙ rw (le-ltb L n (omega arith)) in (omega arith, cc, cc)
 
 pub explored-many : (x : Automaton) (L : ℕ) → TooMany ≡ exploredOf x L → L < length (configurations x L)
 unfolding exploredOf
@@ -161,49 +160,24 @@ explored-many x L e = go (decLt L n)
     go (no h) = absurd (let f : TooMany ≡ Tables n (length (plainArcs x L)) = e ∙ rw (le-ltb L n (omega arith)) in let z : _≡_ {A = ℕ} 0 1 = cc in omega arith)
 
 -- What exploring leaves is built once the rows are closed.
-pub explored-built : (x : Automaton) (L : ℕ) {w w' : List ℕ} {base k p : ℕ} → Explores x L w base (Tables k p) → k ≤ 256 → mapEnd ≤ base → Kept base (base + 4 * k) w w'
-    → ((i j : ℕ) → i < k → T (related w' base i j) ↔ Closure (Link k (related w base)) i j) → letters x ≤ 255 → Built x L w' base k p
-explored-built x L {k = k} {p} found few above kept closed short =
-    let a = explored-few x L k p (found .answer) in
+pub explored-built : (x : Automaton) (L : ℕ) {w w' : List ℕ} {base count plain : ℕ} → Explores x L w base (Tables count plain) → count ≤ 256 → mapEnd ≤ base → Kept base (base + 4 * count) w w'
+    → ((i j : ℕ) → i < count → T (related w' base i j) ↔ Closure (Link count (related w base)) i j) → letters x ≤ 255 → Built x L w' base count plain
+explored-built x L {count = count} {plain} found few above kept closed short =
+    let a = explored-few x L count plain (found .answer) in
     built x L (a .0) (a .1) (a .2) few above (found .block) kept closed short
 
 -- The configurations stand where they were, and where exploring left them.
-pub stored-kept : (x : Automaton) (L : ℕ) (w w' : List ℕ) (k : ℕ) → length w' ≡ length w → ((i : ℕ) → i < k → getD w' (configs + i) 0 ≡ getD w (configs + i) 0) → Stored x L w k → Stored x L w' k
-stored-kept x L w w' k e f t = part-same w w' configs k e f ∙ t
+pub stored-kept : (x : Automaton) (L : ℕ) (w w' : List ℕ) (count : ℕ) → length w' ≡ length w → ((i : ℕ) → i < count → getD w' (configs + i) 0 ≡ getD w (configs + i) 0) → Stored x L w count → Stored x L w' count
+stored-kept x L w w' count e f t = part-same w w' configs count e f ∙ t
 
-pub explored-stored : (x : Automaton) (L : ℕ) {w w' : List ℕ} {base k p : ℕ} → Explores x L w base (Tables k p) → k ≤ 256 → mapEnd ≤ base → Kept base (base + 4 * k) w w' → Stored x L w' k
-explored-stored x L {w} {w'} {k = k} found few above kept = stored-kept x L w w' k (kept .long) (λ i h. kept .below (configs + i) (omega arith)) (found .block .table)
+pub explored-stored : (x : Automaton) (L : ℕ) {w w' : List ℕ} {base count plain : ℕ} → Explores x L w base (Tables count plain) → count ≤ 256 → mapEnd ≤ base → Kept base (base + 4 * count) w w' → Stored x L w' count
+explored-stored x L {w} {w'} {count = count} found few above kept = stored-kept x L w w' count (kept .long) (λ i h. kept .below (configs + i) (omega arith)) (found .block .table)
 
 -- There is a configuration.
-pub some-configuration : {x : Automaton} {L : ℕ} {w : List ℕ} {base k p : ℕ} → Built x L w base k p → 0 < k
+pub some-configuration : {x : Automaton} {L : ℕ} {w : List ℕ} {base count plain : ℕ} → Built x L w base count plain → 0 < count
 some-configuration {x} {L} b = rw (b .many) (getElem?-lt (configurations x L) 0 (first-configuration x L (rw (← b .many) (b .ended))))
 
 -- ---- the start of a walk over words
 -- Row 0 of a built block is the live set of the empty word.
-pub row-start : {x : Automaton} {L : ℕ} {w : List ℕ} {base k p : ℕ} → Built x L w base k p
-    → (view k (row w base 0) ≡ epsilonClosure k (plainArcs x L) (table k (eqb 0))) × εClosedSet k (plainArcs x L) (row w base 0)
-unfolding related epsilonClosure
-row-start {x} {L} {w} {base} {k} b = (is, (λ j t. run-below k arcs inside pos ((b .rows 0 j pos) .0 t), rw is (epsilonClosure-closed k arcs inside first (length-table k (eqb 0)))))
-  where
-    fits : length (configurations x L) ≤ L
-    fits = rw (← b .many) (b .ended)
-
-    arcs : List PlainArc
-    arcs = plainArcs x L
-
-    first : List Bool
-    first = table k (eqb 0)
-
-    inside : (a : PlainArc) → List·Memᴰ a (plainArcs x L) → a .target < k
-    inside a m = rw (b .many) (within x L fits a m)
-
-    pos : 0 < k
-    pos = some-configuration b
-
-    is : view k (row w base 0) ≡ epsilonClosure k (plainArcs x L) (table k (eqb 0))
-    is = view-is k (row w base 0) (epsilonClosure k arcs first) (length-rounds k arcs inside k first (length-table k (eqb 0))) (λ j h. (
-      λ t. (epsilonClosure-iff k arcs inside first j (length-table k (eqb 0))) .1 (0, (in-table k (eqb 0) 0) .1 (pos, tt), (b .rows 0 j pos) .0 t),
-      λ t. let q = (epsilonClosure-iff k arcs inside first j (length-table k (eqb 0))) .0 t in
-          let e : 0 ≡ q .0 = eqb→eq 0 (q .0) (((in-table k (eqb 0) (q .0)) .0 (q .1)) .1) in
-          (b .rows 0 j pos) .1 (rw (← e) at (q .2)),
-    ))
+pub row-start : {x : Automaton} {L : ℕ} {w : List ℕ} {base count plain : ℕ} → Built x L w base count plain → (view count (row w base 0) ≡ live count (plainArcs x L) []) × εClosedSet count (plainArcs x L) (row w base 0)
+row-start {x} {L} {w} {base} {count} b = row-live count (plainArcs x L) w base (some-configuration b) (λ a m. rw (b .many) (within x L (rw (← b .many) (b .ended)) a m)) (b .rows)

@@ -1,42 +1,34 @@
--- FaceLaws: what an open file's block tells is its automaton's: the plain arcs in their order, and the final configurations.
+-- FaceLaws: the plain arcs that an open file's block tells are its automaton's, in their order.
 use mathlib.Core.Path.{_∙_, _≡_, ap, ap₂, refl, sym}
-use mathlib.Core.Bool.{_&&_}
 use mathlib.Core.List.{List, [], _++_, _∷_, append-nil, flatMap, map}
 use mathlib.Core.Option.{Option, none, some}
-use Prim.Native.Nat.{_%_, _*_, _+_, _-_, _/_, _<_, _≤_, suc, ℕ}
+use Prim.Native.Nat.{_%_, _+_, _-_, _/_, _<_, _≤_, suc, ℕ}
 use native.Mathlib.Decide.{decLt}
 use native.Mathlib.Nat.{add-zero}
 use native.Mathlib.Numerals.{add-one}
 use native.Mathlib.Omega.{arith}
 use borrow.Author.Tests.{le-ltb, lt-ltb, ne-eqb}
-use lib.Dec.{ltb}
-use lib.ListN.{drop, getElem?, length, length-append, take}
+use lib.ListN.{length, length-append, take}
 use lib.Seq.{take-all}
-use Rattle.automata.specs.Automaton.{Automaton, Configuration, WellFormed, letters, states}
+use Rattle.automata.specs.Automaton.{Automaton, Configuration, WellFormed, letters}
 use Rattle.automata.specs.Lists.{Each, countFrom}
 use Rattle.automata.specs.Live.{PlainArc}
 use Rattle.automata.specs.Performing.{Move, successors}
-use Rattle.automata.specs.Unfolding.{configurations, finalSet, plainAll, plainArcs, plainFrom}
+use Rattle.automata.specs.Unfolding.{configurations, plainAll, plainArcs, plainFrom}
 use Rattle.automata.proofs.Laws.{each-split, map-map, mem-each}
-use Rattle.file_fields.specs.Parts.{firstArc, flagBytes}
 use Rattle.file_fields.specs.declared.Counts.{Counts}
-use Rattle.format.specs.Decoding.{automatonOf, decoded, isFinal, letterOf}
+use Rattle.format.specs.Decoding.{automatonOf, letterOf}
 use Rattle.format.specs.Encoding.{letterByte}
-use Rattle.file_laws.proofs.Laws.{file-seen, valid-arcs, valid-decoded, valid-lies, valid-ranges, valid-sizes, valid-wellFormed}
+use Rattle.file_laws.proofs.Laws.{valid-ranges, valid-sizes, valid-wellFormed}
 use Rattle.word_layout.specs.Layout.{arcsAt, packedArc}
 use Rattle.word_layout.specs.declared.Block.{Block}
 use Rattle.word_fields.specs.Fields.{field}
-use Rattle.word_sets.specs.Sets.{inSet, view}
-use Rattle.table_operations.proofs.Laws.{Good}
 use Rattle.table_configurations.specs.Tables.{fieldsOf, listed}
 use Rattle.table_explore.specs.Explores.{Walked, startOf}
-use Rattle.table_explore.proofs.Laws.{configurations-packed}
 use Rattle.table_sets.specs.Stepping.{endAt, startAt}
 use Rattle.table.specs.Face.{plainEnd, plainStart, plainsBetween, plainsLeaving, plainsOfMany}
-use Rattle.table.specs.Finals.{flagPlace, isFinalIn, stateIn}
 use Rattle.table.specs.Opening.{Holds}
-use Rattle.table.proofs.FinalLaws.{configurations-states, final-view, flag-inside}
-use Rattle.table.proofs.Opening.{holds-count, holds-few, holds-plain, registers-are}
+use Rattle.table.proofs.Opening.{holds-count, holds-few, holds-plain}
 use Rattle.table.proofs.PlainFits.{PlainFits, plain-fit}
 use Rattle.table.proofs.PlainPlaces.{before-le}
 
@@ -118,43 +110,43 @@ module _ (x : Automaton) (all : List Configuration) (w : List ℕ) (block : Bloc
 -- ---- the plain arcs of a block whose walk has ended
 -- (the limit L is a variable: the checker would walk as many configurations as a written number says)
 module _ (x : Automaton) (formed : WellFormed x) (few-letters : letters x ≤ 64) {L : ℕ} (limit : L ≤ 256) (few : length (configurations x L) ≤ L)
-    {w : List ℕ} {block : Block} (many : block .count ≡ length (configurations x L)) (plain : block .plain ≡ length (plainArcs x L)) (fits : block .plain ≤ 2048) (walked : Walked x L w (block .base) (block .count) (block .plain)) where
-  abbrev k : ℕ
-  k = block .count
+    {w : List ℕ} {block : Block} (many : block .count ≡ length (configurations x L)) (plain-many : block .plain ≡ length (plainArcs x L)) (fits : block .plain ≤ 2048) (walked : Walked x L w (block .base) (block .count) (block .plain)) where
+  abbrev count : ℕ
+  count = block .count
 
-  abbrev p : ℕ
-  p = block .plain
+  abbrev plain : ℕ
+  plain = block .plain
 
   abbrev at : ℕ
   at = block .base
 
-  start-is : (s : ℕ) → s < k → startAt w at s ≡ startOf x L s
+  start-is : (s : ℕ) → s < count → startAt w at s ≡ startOf x L s
   unfolding startAt
   start-is s h = walked .starts fits s h
 
-  end-is : (s : ℕ) → s < k → endAt w at k p s ≡ startOf x L (suc s)
+  end-is : (s : ℕ) → s < count → endAt w at count plain s ≡ startOf x L (suc s)
   unfolding endAt startOf plainArcs
-  end-is s h = go (decLt (s + 1) k)
+  end-is s h = go (decLt (s + 1) count)
     where
-      go : Dec (s + 1 < k) → endAt w at k p s ≡ startOf x L (suc s)
-      go (yes g) = rw (lt-ltb (s + 1) k g) (start-is (s + 1) g ∙ ap (startOf x L) (add-one s))
-      go (no g) = rw (le-ltb (s + 1) k (omega arith)) (plain ∙ ap (λ (cs : List Configuration). length (plainAll x (configurations x L) 0 cs)) (sym (take-all (suc s) (configurations x L) (omega arith))))
+      go : Dec (s + 1 < count) → endAt w at count plain s ≡ startOf x L (suc s)
+      go (yes g) = rw (lt-ltb (s + 1) count g) (start-is (s + 1) g ∙ ap (startOf x L) (add-one s))
+      go (no g) = rw (le-ltb (s + 1) count (omega arith)) (plain-many ∙ ap (λ (cs : List Configuration). length (plainAll x (configurations x L) 0 cs)) (sym (take-all (suc s) (configurations x L) (omega arith))))
 
   -- the plain arcs of a configuration are among all of them
   pub plain-end-few : (s : ℕ) → s < block .count → plainEnd w block s ≤ 2048
   unfolding startOf plainArcs plainEnd
-  plain-end-few s h = rw (end-is s h) (omega (arith, plain, before-le x (configurations x L) 0 (configurations x L) (suc s)))
+  plain-end-few s h = rw (end-is s h) (omega (arith, plain-many, before-le x (configurations x L) 0 (configurations x L) (suc s)))
 
   small : Each (PlainFits 256 255) (plainArcs x L)
   small = mem-each (plainArcs x L) (λ a m. let f = plain-fit x formed L few a m in record { source = omega (arith, f .source); lettered = λ l e. omega (arith, f .lettered l e); target = omega (arith, f .target) })
 
   -- THE LAW. What is listed are the plain arcs, in their order
-  plains-listed : plainsOfMany w block 0 k ≡ plainArcs x L
+  plains-listed : plainsOfMany w block 0 count ≡ plainArcs x L
   unfolding plainArcs startOf fieldsOf
   plains-listed =
       let all = configurations x L in
       let z : (s : ℕ) → 0 + s ≡ s = λ s. omega arith in
-      let e : map (λ i. field w (arcsAt at) i) (countFrom 0 (length (plainArcs x L))) ≡ map listed (plainArcs x L) = rw (← plain) (walked .arcs fits) in
+      let e : map (λ i. field w (arcsAt at) i) (countFrom 0 (length (plainArcs x L))) ≡ map listed (plainArcs x L) = rw (← plain-many) (walked .arcs fits) in
       ap (plainsOfMany w block 0) many
       ∙ many-listed x all w block 0 all 0 small e
       (λ s h. rw (z s) (start-is s (omega arith)) ∙ sym (z _))
@@ -178,20 +170,3 @@ module _ {file : List ℕ} {c : Counts} {w : List ℕ} {block : Block} (h : Hold
 
     pub holds-end : (s : ℕ) → s < block .count → plainEnd w block s ≤ 2048
     holds-end = plain-end-few y formed few-letters (omega arith) (holds-few h) (holds-count h) (holds-plain h) fits (h .explored .block)
-
-  -- the final configurations
-  flagged : y .finals ≡ map isFinal (flagBytes c file)
-  unfolding decoded
-  flagged = ap (λ (x : Automaton). x .finals) (valid-decoded file c (h .valid))
-
-  good : Each (Good (c .registers)) (configurations y 256)
-  good = configurations-packed y (c .registers) (c .arcs) (drop (firstArc c) file) (valid-ranges file c (h .valid) .registers) (registers-are file c (h .valid)) (valid-arcs file c (h .valid)) (valid-lies file c (h .valid) .ok) 256 .1
-
-  inside : (i : ℕ) (d : Configuration) → getElem? (configurations y 256) i ≡ some d → d .state < c .states
-  inside i d e = omega (arith, configurations-states y formed 256 i d e, ap (λ (d : Counts). d .states) (valid-sizes file c (h .valid)))
-
-  pub holds-flags : (i : ℕ) → i < block .count → flagPlace c (stateIn w i) < length file
-  holds-flags = flag-inside y c file flagged (c .registers) (valid-ranges file c (h .valid) .registers) w (block .count) (configurations y 256) (h .explored .block .table) (holds-count h) good inside (file-seen file c (h .valid) .there)
-
-  pub holds-finals : (set : List ℕ) → ((j : ℕ) → inSet set j ≡ (ltb j (block .count) && isFinalIn file c w j)) → view (block .count) set ≡ finalSet (automatonOf file) (configurations (automatonOf file) 256)
-  holds-finals set e = final-view y c file flagged (c .registers) (valid-ranges file c (h .valid) .registers) w (block .count) (configurations y 256) (h .explored .block .table) (holds-count h) good inside set e .0

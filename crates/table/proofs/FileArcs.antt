@@ -3,6 +3,7 @@ use mathlib.Core.Path.{_∙_, _≡_, ap, refl, sym}
 use mathlib.Core.List.{List, Memᴰ·cast, Memᴰ·map, Memᴰ·of-map, [], map}
 use mathlib.Core.Option.{Option·some-injective, some}
 use Prim.Native.Nat.{_+_, _<_, _≤_, ℕ}
+use native.Mathlib.Omega.{arith}
 use lib.ListN.{drop, getD, getElem?, length}
 use Rattle.automata.specs.Automaton.{Automaton, Configuration, Run, letters}
 use Rattle.automata.specs.Lists.{Each}
@@ -10,7 +11,7 @@ use Rattle.automata.specs.Live.{Moves}
 use Rattle.automata.specs.Performing.{Move, successors}
 use Rattle.automata.specs.Unfolding.{configurations, plainArcs, sameConfiguration}
 use Rattle.automata.proofs.Laws.{distinct, each-at, each-mem, getElem?-lt, moves-from, moves-to, one-number, sameConfiguration-iff, successors-iff, within}
-use Rattle.word_layout.specs.Layout.{configs, mapEnd}
+use Rattle.word_layout.specs.Layout.{configs}
 use Rattle.table_operations.specs.Packed.{Hop, hops, pack}
 use Rattle.table_configurations.specs.Tables.{Configured}
 use Rattle.table_operations.proofs.Laws.{Good, Packs, hops-packed, pack-inj, packHop}
@@ -19,16 +20,17 @@ use Rattle.format.specs.Decoding.{decoded}
 use Rattle.format.specs.Placed.{Lies}
 use Rattle.file_fields.specs.Parts.{firstArc}
 use Rattle.file_fields.specs.declared.Counts.{Counts}
-use Rattle.word_fields.specs.Frame.{Kept}
-use Rattle.table.specs.FileSteps.{Findable, FromFile, Outgoing, Steppable}
+use Rattle.file_fields.proofs.Laws.{letters-length}
+use Rattle.word_layout.specs.declared.Block.{Block}
+use Rattle.table_file_steps.specs.FileSteps.{Findable, FromFile}
+use Rattle.table_live.specs.Steps.{Outgoing}
 use Rattle.table_sets.specs.Stepping.{Held}
-use Rattle.table.specs.Words.{Built, Stored}
-use Rattle.table_sets.proofs.Laws.{block-kept, held-each, held-same, list-kept}
-use Rattle.table.proofs.VisitFile.{from-kept, map-kept}
+use Rattle.table.specs.Built.{Built, Stored}
+use Rattle.table_sets.proofs.Laws.{held-each}
 use Rattle.table.proofs.FinalLaws.{word-in}
 
 -- the automaton of a file is built
-module _ (file : List ℕ) (c : Counts) {L : ℕ} {w : List ℕ} {base k p : ℕ} (lies : Lies (c .registers) (c .arcs) (firstArc c) file) (b : Built (decoded c file) L w base k p) (stored : Stored (decoded c file) L w k) where
+module _ (file : List ℕ) (c : Counts) {L : ℕ} {w : List ℕ} {block : Block} (lies : Lies (c .registers) (c .arcs) (firstArc c) file) (b : Built (decoded c file) L w (block .base) (block .count) (block .plain)) (stored : Stored (decoded c file) L w (block .count)) where
   abbrev x : Automaton
   x = decoded c file
 
@@ -46,8 +48,8 @@ module _ (file : List ℕ) (c : Counts) {L : ℕ} {w : List ℕ} {base k p : ℕ
   unfolding decoded successors
   packed d g = hops-packed (c .registers) (lies .registers) d g (c .arcs) (drop (firstArc c) file) (lies .ok)
 
-  entry : (i : ℕ) → i < k → (d : Configuration) × (getElem? (configurations (decoded c file) L) i ≡ some d) × (getD w (configs + i) 0 ≡ pack d)
-  entry = word-in w k all stored (b .many)
+  entry : (i : ℕ) → i < block .count → (d : Configuration) × (getElem? (configurations (decoded c file) L) i ≡ some d) × (getD w (configs + i) 0 ≡ pack d)
+  entry = word-in w (block .count) all stored (b .many)
 
   -- the word of configuration d, and no other word, is d packed
   word-of : (i : ℕ) (d : Configuration) → getElem? (configurations (decoded c file) L) i ≡ some d → getD w (configs + i) 0 ≡ pack d
@@ -55,7 +57,7 @@ module _ (file : List ℕ) (c : Counts) {L : ℕ} {w : List ℕ} {base k p : ℕ
       let f = entry i (rw (b .many) (getElem?-lt all i e)) in
       f .2 ∙ ap pack (Option·some-injective (f .0) d (sym (f .1) ∙ e))
 
-  of-word : (i : ℕ) (d : Configuration) → i < k → Good (c .registers) d → getD w (configs + i) 0 ≡ pack d → getElem? (configurations (decoded c file) L) i ≡ some d
+  of-word : (i : ℕ) (d : Configuration) → i < block .count → Good (c .registers) d → getD w (configs + i) 0 ≡ pack d → getElem? (configurations (decoded c file) L) i ≡ some d
   of-word i d h g e =
       let f = entry i h in
       f .1 ∙ ap some (pack-inj (c .registers) (lies .registers) (f .0) d (each-at (Good (c .registers)) all i (f .1) good) g (sym (f .2) ∙ e))
@@ -64,21 +66,21 @@ module _ (file : List ℕ) (c : Counts) {L : ℕ} {w : List ℕ} {base k p : ℕ
   one i j = one-number sameConfiguration sameConfiguration-iff all i j (distinct (decoded c file) L fits)
 
   -- each configuration is found in one place
-  pub built-findable : Configured w k → Findable w k
+  pub built-findable : Configured w (block .count) → Findable w (block .count)
   built-findable f = record {
     configured = f;
     apart = λ i t h g e. let u = entry i h in one i t (u .1) (of-word t (u .0) g (each-at (Good (c .registers)) all i (u .1) good) (sym e ∙ u .2));
   }
 
   -- ---- THE LAW of the arcs in the file
-  module _ (s l j : ℕ) (hs : s < k) where
+  module _ (s l j : ℕ) (hs : s < block .count) where
     own : Good (c .registers) (entry s hs .0)
     own = each-at (Good (c .registers)) all s (entry s hs .1) good
 
     hops-are : hops (c .arcs) (drop (firstArc c) file) (getD w (configs + s) 0) ≡ map packHop (successors (decoded c file) (entry s hs .0))
     hops-are = rw (entry s hs .2) (packed (entry s hs .0) own .0)
 
-    onward : FromFile file c w base k s l j → (t : ℕ) × Moves (plainArcs (decoded c file) L) s (some l) t × Run (Moves (plainArcs (decoded c file) L)) t [] j
+    onward : FromFile file c w block s l j → (t : ℕ) × Moves (plainArcs (decoded c file) L) s (some l) t × Run (Moves (plainArcs (decoded c file) L)) t [] j
     onward f =
         let q = Memᴰ·of-map packHop (successors (decoded c file) (entry s hs .0)) (rw hops-are at (f .among)) in
         let m = q .0 in
@@ -88,10 +90,10 @@ module _ (file : List ℕ) (c : Counts) {L : ℕ} {w : List ℕ} {base k p : ℕ
         let same : moved .0 ≡ f .to = one (moved .0) (f .to) (moved .1) found in
         (f .to, Memᴰ·cast (λ i. record { source = s; letter = (sym spells) i; target = (sym same) i }) (moved .2), (b .rows (f .to) j (f .few)) .0 (f .leads))
 
-    back : (t : ℕ) × Moves (plainArcs (decoded c file) L) s (some l) t × Run (Moves (plainArcs (decoded c file) L)) t [] j → FromFile file c w base k s l j
+    back : (t : ℕ) × Moves (plainArcs (decoded c file) L) s (some l) t × Run (Moves (plainArcs (decoded c file) L)) t [] j → FromFile file c w block s l j
     back q =
         let made = moves-from (decoded c file) L fits s (entry s hs .1) (q .1) in
-        let few : q .0 < k = rw (b .many) (getElem?-lt all (q .0) (made .1)) in
+        let few : q .0 < block .count = rw (b .many) (getElem?-lt all (q .0) (made .1)) in
         record {
           hop = record { letter = some l; to = pack (made .0) };
           among = rw hops-are (Memᴰ·map packHop ((successors-iff (decoded c file) (entry s hs .0) (some l) (made .0)) .1 (made .2)));
@@ -102,13 +104,12 @@ module _ (file : List ℕ) (c : Counts) {L : ℕ} {w : List ℕ} {base k p : ℕ
           leads = (b .rows (q .0) j few) .1 (q .2);
         }
 
-  pub file-held : Held k (letters (decoded c file)) (plainArcs (decoded c file) L) (FromFile file c w base k)
+  pub file-held : Held (block .count) (letters (decoded c file)) (plainArcs (decoded c file) L) (FromFile file c w block)
   file-held = held-each (λ a m. rw (b .many) (within (decoded c file) L fits a m)) (λ s l j h g. (onward s l j h, back s l j h))
 
--- the plain arcs of a built automaton are told, and are so still where only the sets of letters have changed
-pub built-outgoing : (file : List ℕ) (c : Counts) {L : ℕ} {w w' : List ℕ} {base acc k p : ℕ} → mapEnd ≤ acc → Steppable file c w base acc k p → Kept acc (acc + 256) w w' → Built (decoded c file) L w base k p → Stored (decoded c file) L w k
-    → Outgoing file c w' base k p (letters (decoded c file)) (plainArcs (decoded c file) L)
-built-outgoing file c h s kept b t = record {
-  listed = λ l. held-same (λ i m j g. list-kept (block-kept kept (s .room .apart)) i (s .starts l) g refl refl m j) (b .held l);
-  filed = λ l. held-same (λ i m j g. from-kept (map-kept h (s .room .apart) (s .findable .configured .few) kept) file c i g m j) (file-held file c (s .walkable .lies) b t);
-}
+  -- the plain arcs are told
+  pub built-outgoing : Outgoing file c w block (plainArcs (decoded c file) L)
+  unfolding decoded
+  built-outgoing =
+      let many = letters-length c file (omega (arith, lies .fits)) in
+      record { listed = λ l. rw many at (b .held l); filed = λ l. rw many at file-held }

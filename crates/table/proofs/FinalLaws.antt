@@ -21,7 +21,7 @@ use Rattle.word_layout.specs.Layout.{configs}
 use Rattle.table_operations.specs.Packed.{pack}
 use Rattle.table_operations.proofs.Laws.{Good, state-of}
 use Rattle.format.specs.Decoding.{isFinal}
-use Rattle.file_fields.specs.Parts.{firstArc, flagBytes}
+use Rattle.file_fields.specs.Parts.{firstArc, flagBytes, flagsAt}
 use Rattle.file_fields.specs.declared.Counts.{Counts}
 use Rattle.word_sets.specs.Sets.{Within, inSet, view}
 use Rattle.word_sets.proofs.Laws.{view-is}
@@ -64,26 +64,26 @@ configurations-states x wf L i d e = reached (known-sound sameConfiguration (tar
         rw (← (q .2)) h
 
 -- each word of the table is a configuration, packed
-pub word-in : (w : List ℕ) (known : ℕ) (cs : List Configuration) → take known (drop configs w) ≡ map pack cs → known ≡ length cs → (i : ℕ) → i < known
+pub word-in : (w : List ℕ) (count : ℕ) (cs : List Configuration) → take count (drop configs w) ≡ map pack cs → count ≡ length cs → (i : ℕ) → i < count
     → (d : Configuration) × (getElem? cs i ≡ some d) × (getD w (configs + i) 0 ≡ pack d)
-word-in w known cs stand many i h =
+word-in w count cs stand many i h =
     let f = getElem?-some cs i (omega arith) in
     let e : some (getD w (configs + i) 0) ≡ some (pack (f .0)) =
-    ap some (sym (getD-take known (drop configs w) i 0 h ∙ getD-drop configs w i 0) ∙ ap (λ (l : List ℕ). getD l i 0) stand)
+    ap some (sym (getD-take count (drop configs w) i 0 h ∙ getD-drop configs w i 0) ∙ ap (λ (l : List ℕ). getD l i 0) stand)
     ∙ sym (at-some (map pack cs) i 0 (omega (arith, length-map cs pack))) ∙ at-map pack cs i ∙ ap (Option·map pack) (f .1) in
     (f .0, f .1, Option·some-injective (getD w (configs + i) 0) (pack (f .0)) e)
 
 -- x has the final states that the flags of the file say; the words hold the configurations cs
-module _ (x : Automaton) (c : Counts) (file : List ℕ) (flagged : x .finals ≡ map isFinal (flagBytes c file)) (n : ℕ) (few : n ≤ 8) (w : List ℕ) (known : ℕ) (cs : List Configuration)
-    (stand : take known (drop configs w) ≡ map pack cs) (many : known ≡ length cs) (good : Each (Good n) cs) (small : (i : ℕ) (d : Configuration) → getElem? cs i ≡ some d → d .state < c .states) where
-  state-in : (i : ℕ) → i < known → (d : Configuration) × (getElem? cs i ≡ some d) × (stateIn w i ≡ d .state)
-  state-in i h = let f = word-in w known cs stand many i h in (f .0, f .1, ap (λ (v : ℕ). v / 2 ^ 32) (f .2) ∙ state-of n few (f .0) (each-at (Good n) cs i (f .1) good))
+module _ (x : Automaton) (c : Counts) (file : List ℕ) (flagged : x .finals ≡ map isFinal (flagBytes c file)) (n : ℕ) (few : n ≤ 8) (w : List ℕ) (count : ℕ) (cs : List Configuration)
+    (stand : take count (drop configs w) ≡ map pack cs) (many : count ≡ length cs) (good : Each (Good n) cs) (small : (i : ℕ) (d : Configuration) → getElem? cs i ≡ some d → d .state < c .states) where
+  state-in : (i : ℕ) → i < count → (d : Configuration) × (getElem? cs i ≡ some d) × (stateIn w i ≡ d .state)
+  state-in i h = let f = word-in w count cs stand many i h in (f .0, f .1, ap (λ (v : ℕ). v / 2 ^ 32) (f .2) ∙ state-of n few (f .0) (each-at (Good n) cs i (f .1) good))
 
   -- the flag of each configuration's state is in the file
-  pub flag-inside : firstArc c ≤ length file → (i : ℕ) → i < known → flagPlace c (stateIn w i) < length file
+  pub flag-inside : firstArc c ≤ length file → (i : ℕ) → i < count → flagPlace c (stateIn w i) < length file
   flag-inside h i l = let s = state-in i l in omega (arith, s .2, small i (s .0) (s .1))
 
-  final-at : (i : ℕ) → i < known → isFinalIn file c w i ≡ in? (finalSet x cs) i
+  final-at : (i : ℕ) → i < count → isFinalIn file c w i ≡ in? (finalSet x cs) i
   unfolding finalSet
   final-at i h =
       let s = state-in i h in
@@ -92,14 +92,14 @@ module _ (x : Automaton) (c : Counts) (file : List ℕ) (flagged : x .finals ≡
       sym (at-some (map (λ d. in? (x .finals) (d .state)) cs) i false (omega (arith, length-map cs (λ d. in? (x .finals) (d .state)))))
       ∙ at-map (λ d. in? (x .finals) (d .state)) cs i ∙ ap (Option·map (λ d. in? (x .finals) (d .state))) (s .1) in
       rw (s .2)
-      (ap isFinal (sym (getD-take (c .states) (drop (12 + c .letters) file) (s .0 .state) 0 l ∙ getD-drop (12 + c .letters) file (s .0 .state) 0))
+      (ap isFinal (sym (getD-take (c .states) (drop (flagsAt c) file) (s .0 .state) 0 l ∙ getD-drop (flagsAt c) file (s .0 .state) 0))
       ∙ sym (List·getD-map isFinal (flagBytes c file) (s .0 .state) 0) ∙ ap (λ (F : List Bool). in? F (s .0 .state)) (sym flagged)
       ∙ sym (Option·some-injective _ _ q))
 
   -- THE LAW. The set that the flags make is that of the final configurations
-  pub final-view : (r : List ℕ) → ((j : ℕ) → inSet r j ≡ (ltb j known && isFinalIn file c w j)) → (view known r ≡ finalSet x cs) × Within known r
+  pub final-view : (r : List ℕ) → ((j : ℕ) → inSet r j ≡ (ltb j count && isFinalIn file c w j)) → (view count r ≡ finalSet x cs) × Within count r
   unfolding finalSet
   final-view r e = (
-    view-is known r (finalSet x cs) (length-map cs (λ d. in? (x .finals) (d .state)) ∙ sym many) (λ j h. rw (e j, lt-ltb j known h, final-at j h) (λ t. t, λ t. t)),
-    λ j t. ltb→lt j known ((and-iff (ltb j known) (isFinalIn file c w j)) .0 (rw (e j) at t) .0),
+    view-is count r (finalSet x cs) (length-map cs (λ d. in? (x .finals) (d .state)) ∙ sym many) (λ j h. rw (e j, lt-ltb j count h, final-at j h) (λ t. t, λ t. t)),
+    λ j t. ltb→lt j count ((and-iff (ltb j count) (isFinalIn file c w j)) .0 (rw (e j) at t) .0),
   )

@@ -1,14 +1,12 @@
-pub mod BuiltFrame
-pub mod VisitFile
 pub mod PlainPlaces
 pub mod BuildBlock
 pub mod FinalLaws
 pub mod FileArcs
-pub mod WalkWord
 pub mod JudgeWord
 pub mod ReadyLaws
 pub mod Opening
 pub mod PlainFits
 pub mod FaceLaws
+pub mod Standing
 pub mod Promise
 pub mod Laws

@@ -1,24 +1,23 @@
 -- Opening: what opening a file answers in each case; what a call answers by it; and what an open file's block holds.
-use mathlib.Core.Path.{_∙_, _≡_, ap, ap₂, refl, subst, sym}
+use mathlib.Core.Path.{_∙_, _≡_, ap, ap₂, refl, sym}
 use mathlib.Core.Bool.{Bool, cond, false, true}
 use mathlib.Core.List.{List, [], _++_, _∷_}
 use Prim.Native.Nat.{_<_, _≤_, ℕ}
 use native.Mathlib.Omega.{arith}
 use borrow.Author.Tests.{le-ltb, lt-ltb}
 use lib.ListN.{length}
-use Rattle.automata.specs.Automaton.{Automaton}
 use Rattle.automata.specs.Unfolding.{configurations, plainArcs}
 use Rattle.file_fields.specs.Parts.{countsOf, numberOf}
 use Rattle.file_fields.specs.declared.Counts.{Counts}
 use Rattle.file_fields.specs.declared.Reading.the-variants.{Refused as Fault, Valid}
-use Rattle.format.specs.Decoding.{automatonOf, decoded}
+use Rattle.format.specs.Decoding.{automatonOf}
 use Rattle.format.specs.Reading.{readingOf}
 use Rattle.format.specs.Refusals.{faultOf, unlessRefused}
-use Rattle.file_laws.proofs.Laws.{file-seen, has-fault, valid-decoded, valid-sizes}
+use Rattle.file_laws.proofs.Laws.{file-seen, has-fault, valid-sizes}
 use Rattle.word_layout.specs.Layout.{blockEnd, firstBlock}
 use Rattle.word_layout.specs.declared.Block.{Block}
 use Rattle.table_configurations.specs.declared.Explored.the-variants.{Tables, TooMany}
-use Rattle.table_explore.specs.Explores.{Explores, exploredOf}
+use Rattle.table_explore.specs.Explores.{exploredOf}
 use Rattle.table.specs.Opening.{Holds, blockOf, openRefusals, openedOf}
 use Rattle.table.specs.declared.Opened.{Opened}
 use Rattle.table.specs.declared.Opened.the-variants.{Open, Refused}
@@ -39,18 +38,22 @@ module _ (file : List ℕ) (words : ℕ) where
       none : faultOf file ≤ 0
       none = omega (arith, ap numberOf valid)
 
+      -- what the last test decides
+      abbrev last : Bool → Opened
+      last t = cond t (Refused 21 1) (Open (countsOf file) (blockOf 256 file))
+
       -- exploring found more than 256 configurations, or not
       pub opened-beyond : TooMany ≡ exploredOf (automatonOf file) 256 → Refused 21 1 ≡ openedOf file words
       unfolding openedOf
-      opened-beyond t = rw (le-ltb words 8192 enough, le-ltb 0 (faultOf file) none, lt-ltb 256 (length (configurations (automatonOf file) 256)) (explored-many (automatonOf file) 256 t))
+      opened-beyond t = rw (le-ltb words 8192 enough, le-ltb 0 (faultOf file) none) (sym (ap last (lt-ltb 256 (length (configurations (automatonOf file) 256)) (explored-many (automatonOf file) 256 t))))
 
-      pub opened-open : (k p : ℕ) → Tables k p ≡ exploredOf (automatonOf file) 256 → Open c (record { base = firstBlock; count = k; plain = p }) ≡ openedOf file words
+      pub opened-open : (count plain : ℕ) → Tables count plain ≡ exploredOf (automatonOf file) 256 → Open c (record { base = firstBlock; count = count; plain = plain }) ≡ openedOf file words
       unfolding openedOf
-      opened-open k p t =
-          let f = explored-few (automatonOf file) 256 k p t in
+      opened-open count plain t =
+          let f = explored-few (automatonOf file) 256 count plain t in
           let d = sym (file-seen file c valid .counts) in
-          let e : Open c (record { base = firstBlock; count = k; plain = p }) ≡ Open (countsOf file) (blockOf 256 file) = λ i. Open (d i) (record { base = firstBlock; count = f .1 i; plain = f .2 i }) in
-          e ∙ rw (le-ltb words 8192 enough, le-ltb 0 (faultOf file) none, le-ltb 256 (length (configurations (automatonOf file) 256)) (f .0))
+          let e : Open c (record { base = firstBlock; count = count; plain = plain }) ≡ Open (countsOf file) (blockOf 256 file) = λ i. Open (d i) (record { base = firstBlock; count = f .1 i; plain = f .2 i }) in
+          e ∙ rw (le-ltb words 8192 enough, le-ltb 0 (faultOf file) none) (sym (ap last (le-ltb 256 (length (configurations (automatonOf file) 256)) (f .0))))
 
   -- ---- a call's answer, by what opening answers: its refusal, or what the tests that are left say
   module _ {A : Type 0} (refused : ℕ → ℕ → A) (left : List (Bool × ℕ × ℕ)) (answer : A) where
@@ -104,10 +107,6 @@ module _ {file : List ℕ} {c : Counts} {w : List ℕ} {block : Block} (h : Hold
   -- it stands in the words
   pub holds-room : blockEnd (block .base) ≤ length w
   holds-room = h .placed .block
-
-  -- the same, of the automaton that the bytes behind the counts make
-  pub holds-decoded : Explores (decoded c file) 256 w (block .base) (Tables (block .count) (block .plain))
-  holds-decoded = subst (λ (x : Automaton). Explores x 256 w (block .base) (Tables (block .count) (block .plain))) (valid-decoded file c (h .valid)) (h .explored)
 
 -- the registers of a valid file's automaton are those of its counts
 pub registers-are : (file : List ℕ) (c : Counts) → readingOf file ≡ Valid c → automatonOf file .registers ≡ c .registers

@@ -12,32 +12,32 @@ use Rattle.automata.specs.Performing.{Move, successors}
 use Rattle.automata.specs.Unfolding.{configurations, plainAll, plainArcs, plainFrom}
 use Rattle.automata.proofs.Laws.{each-join, each-mem, first-configuration, getElem?-lt, successors-iff, within}
 
--- a plain arc between k configurations, with one of n letters
-pub record PlainFits (k n : ℕ) (a : PlainArc) : Type 0 where
-  pub source : a .source < k
+-- a plain arc between `count` configurations, with one of n letters
+pub record PlainFits (count n : ℕ) (a : PlainArc) : Type 0 where
+  pub source : a .source < count
   pub lettered : (l : ℕ) → a .letter ≡ some l → l < n
-  pub target : a .target < k
+  pub target : a .target < count
 
 -- its source and its letter
 abbrev Leaves : ℕ → ℕ → PlainArc → Type 0
-Leaves k n a = (a .source < k) × ((l : ℕ) → a .letter ≡ some l → l < n)
+Leaves count n a = (a .source < count) × ((l : ℕ) → a .letter ≡ some l → l < n)
 
 module _ (x : Automaton) (formed : WellFormed x) where
   move-lettered : (c : Configuration) (m : Move) → List·Memᴰ m (successors x c) → (l : ℕ) → m .letter ≡ some l → l < letters x
   move-lettered c m k l e = let p = (successors-iff x c (m .letter) (m .to)) .0 k in formed .lettered (p .arc) (p .listed) l (p .spells ∙ e)
 
   module _ (all : List Configuration) where
-    from-leaves : (k i : ℕ) (ms : List Move) → i < k → ((m : Move) → List·Memᴰ m ms → (l : ℕ) → m .letter ≡ some l → l < letters x) → Each (Leaves k (letters x)) (plainFrom all i ms)
+    from-leaves : (count i : ℕ) (ms : List Move) → i < count → ((m : Move) → List·Memᴰ m ms → (l : ℕ) → m .letter ≡ some l → l < letters x) → Each (Leaves count (letters x)) (plainFrom all i ms)
     unfolding plainFrom
-    from-leaves k i [] h f = tt
-    from-leaves k i (m ∷ ms) h f = ((h, f m (List·Memᴰ·head refl)), from-leaves k i ms h (λ n j. f n (List·Memᴰ·tail j)))
+    from-leaves count i [] h f = tt
+    from-leaves count i (m ∷ ms) h f = ((h, f m (List·Memᴰ·head refl)), from-leaves count i ms h (λ n j. f n (List·Memᴰ·tail j)))
 
-    all-leave : (k i : ℕ) (cs : List Configuration) → i + length cs ≤ k → Each (Leaves k (letters x)) (plainAll x all i cs)
+    all-leave : (count i : ℕ) (cs : List Configuration) → i + length cs ≤ count → Each (Leaves count (letters x)) (plainAll x all i cs)
     unfolding plainAll
-    all-leave k i [] h = tt
-    all-leave k i (c ∷ cs) h = each-join (Leaves k (letters x)) (plainFrom all i (successors x c)) (plainAll x all (suc i) cs)
-        (from-leaves k i (successors x c) (omega arith) (move-lettered c))
-        (all-leave k (suc i) cs (omega arith))
+    all-leave count i [] h = tt
+    all-leave count i (c ∷ cs) h = each-join (Leaves count (letters x)) (plainFrom all i (successors x c)) (plainAll x all (suc i) cs)
+        (from-leaves count i (successors x c) (omega arith) (move-lettered c))
+        (all-leave count (suc i) cs (omega arith))
 
   module _ (L : ℕ) (few : length (configurations x L) ≤ L) where
     abbrev many : ℕ

@@ -1,60 +1,60 @@
--- ReadyLaws: a valid file's automaton, once it is built, can be judged.
+-- ReadyLaws: a valid file can be walked, and an open file's automaton can be judged once the rows of its block are closed.
 use mathlib.Core.Path.{_≡_, subst}
 use mathlib.Core.Logic.{_↔_, inl}
 use mathlib.Core.List.{List}
-use Prim.Native.Nat.{_*_, _+_, _<_, _≤_, ℕ}
+use Prim.Native.Nat.{_*_, _+_, _<_, ℕ}
 use native.Mathlib.Omega.{arith}
 use lib.Dec.{T}
-use Rattle.automata.specs.Automaton.{WellFormed, letters}
-use Rattle.table_operations.specs.Arcs.{Indexed, Linked, Walkable}
-use Rattle.table_explore.specs.Explores.{Explores}
-use Rattle.word_layout.specs.Layout.{Placed, firstSets}
-use Rattle.table_configurations.specs.declared.Explored.the-variants.{Tables}
-use Rattle.table_configurations.proofs.Laws.{configured-kept}
-use Rattle.format.specs.Decoding.{decoded}
+use Rattle.automata.specs.Automaton.{Automaton}
+use Rattle.table_operations.specs.Arcs.{Walkable}
+use Rattle.table_operations.proofs.Laws.{indexed-kept, linked-kept}
+use Rattle.table_configurations.proofs.Laws.{configured-kept, placed-kept}
 use Rattle.format.specs.Reading.{readingOf}
 use Rattle.file_fields.specs.declared.Counts.{Counts}
 use Rattle.file_fields.specs.declared.Reading.the-variants.{Valid}
-use Rattle.file_fields.proofs.Laws.{letters-length}
-use Rattle.file_laws.proofs.Laws.{valid-decoded, valid-lies, valid-ranges, valid-wellFormed}
+use Rattle.file_laws.proofs.Laws.{valid-decoded, valid-lies, valid-ranges}
 use Rattle.word_fields.specs.Frame.{Kept}
+use Rattle.word_layout.specs.Layout.{Placed}
+use Rattle.word_layout.specs.declared.Block.{Block}
 use Rattle.word_rows.specs.Rows.{Closure, Link, related}
-use Rattle.table.specs.FileSteps.{Findable}
-use Rattle.table.specs.Words.{Builds, Built, Ready, Stored}
-use Rattle.table.proofs.BuildBlock.{explored-built, explored-stored}
+use Rattle.table_file_steps.specs.FileSteps.{Findable}
+use Rattle.table.specs.Opening.{Holds}
+use Rattle.table.specs.Standing.{Ready, Stands}
+use Rattle.table.specs.Built.{Built, Stored}
 use Rattle.table.proofs.FileArcs.{built-findable}
+use Rattle.table.proofs.Standing.{closed-stands}
 
--- ---- building
-few-letters : (file : List ℕ) (c : Counts) → c .letters ≤ 64 → Walkable c file → letters (decoded c file) ≤ 255
-unfolding decoded
-few-letters file c h y = omega (arith, letters-length c file (omega (arith, y .lies .fits)))
-
--- what exploring leaves, with its rows closed
-pub builds-tables : (file : List ℕ) (c : Counts) {w w' : List ℕ} {base k p : ℕ} → c .letters ≤ 64 → Walkable c file → Placed w base → Explores (decoded c file) 256 w base (Tables k p)
-    → Kept base (base + 4 * k) w w' → ((i j : ℕ) → i < k → T (related w' base i j) ↔ Closure (Link k (related w base)) i j) → Builds (decoded c file) 256 w' base (Tables k p)
-builds-tables file c {w} {w'} {base} {k} {p} h y place found kept closed = record { answer = found .answer; block = (built, (stored, built-findable file c (y .lies) built stored (configured-kept (λ j l g. kept .below j (omega (arith, place .above))) (found .block .configured)))) }
-  where
-    built : Built (decoded c file) 256 w' base k p
-    built = explored-built (decoded c file) 256 found (found .block .configured .few) (place .above) kept closed (few-letters file c h y)
-
-    stored : Stored (decoded c file) 256 w' k
-    stored = explored-stored (decoded c file) 256 found (found .block .configured .few) (place .above) kept
-
--- ---- a valid file
 pub valid-walkable : (file : List ℕ) (c : Counts) → readingOf file ≡ Valid c → Walkable c file
-valid-walkable file c e = let r = valid-ranges file c e in record { lies = valid-lies file c e; near = omega (arith, r .letters, r .states) }
+valid-walkable file c e = let r = valid-ranges file c e in record { letters = r .letters; states = r .states; lies = valid-lies file c e }
 
-pub valid-few : (file : List ℕ) (c : Counts) → readingOf file ≡ Valid c → c .letters ≤ 64
-valid-few file c e = valid-ranges file c e .letters
+-- the rows of an open file's block are closed
+module _ {file : List ℕ} {c : Counts} {w w' : List ℕ} {block : Block} (h : Holds file c w block) (kept : Kept (block .base) (block .base + 4 * block .count) w w')
+    (closed : (i j : ℕ) → i < block .count → T (related w' (block .base) i j) ↔ Closure (Link (block .count) (related w (block .base))) i j) where
+  walk : Walkable c file
+  walk = valid-walkable file c (h .valid)
 
--- its automaton, once it is built from a place above the sets of the letters on, can be judged
-pub built-ready : {file w : List ℕ} {c : Counts} {base k p : ℕ} → readingOf file ≡ Valid c → Placed w base → firstSets + 256 ≤ base → Indexed c file w → Linked c file w
-    → Built (decoded c file) 256 w base k p → Stored (decoded c file) 256 w k → Findable w k → Ready file c w base k p
-built-ready {file} {w} {c} e place high i l b t f = record {
-  few-letters = valid-few file c e;
-  formed = subst WellFormed (valid-decoded file c e) (valid-wellFormed file c e);
-  built = b;
-  stored = t;
-  steps = record { room = record { block = place .block; rows = omega (arith, place .block); apart = inl high }; starts = b .starts; walkable = valid-walkable file c e; indexed = i; linked = l; findable = f };
-  above = place .above;
-}
+  stands : Stands file c w' block
+  stands = closed-stands (h .valid) (h .placed) (h .explored) kept closed
+
+  -- each configuration can be found, said of the automaton that the bytes behind the counts make
+  findable : Findable w' (block .count)
+  findable =
+      let e = valid-decoded file c (h .valid) in
+      built-findable file c (walk .lies) (subst (λ (x : Automaton). Built x 256 w' (block .base) (block .count) (block .plain)) e (stands .built))
+      (subst (λ (x : Automaton). Stored x 256 w' (block .count)) e (stands .numbered .stored))
+      (configured-kept (λ j l g. kept .below j (omega (arith, h .placed .above))) (h .explored .block .configured))
+
+  pub closed-ready : Ready file c w' block
+  closed-ready =
+      let place : Placed w' (block .base) = placed-kept (kept .long) (h .placed) in
+      record {
+        stands = stands;
+        steps = record {
+          room = record { block = place .block; rows = omega (arith, place .block, h .first); apart = inl (omega (arith, h .first)) };
+          starts = stands .built .starts;
+          walkable = walk;
+          indexed = indexed-kept _ _ walk (λ j l. kept .below j (omega (arith, h .placed .above))) (h .indexed);
+          linked = linked-kept _ _ walk (λ j l. kept .below j (omega (arith, h .placed .above))) (h .linked);
+          findable = findable;
+        };
+      }

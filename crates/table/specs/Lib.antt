@@ -1,6 +1,6 @@
-pub mod FileSteps
 pub mod Finals
-pub mod Words
+pub mod Built
+pub mod Standing
 pub mod Opening
 pub mod Face
 pub mod Membership

@@ -20,7 +20,7 @@ unfoldable pub membershipOf : (file word : List ℕ) (words : ℕ) → Membershi
 unfolding openRefusals unlessRefused
 membershipOf file word words = unlessRefused Refused (openRefusals 256 file words) (judged 256 (automatonOf file) word)
 
--- an answer as document 01 tells it: the number of the refusal and the automaton at fault, each 0 where there is none; whether the
+-- what document 01 tells of an answer: the number of the refusal and the automaton at fault, each 0 where there is none; whether the
 -- word is accepted, and how many configurations are live
 pub record Told : Type 0 where
   pub number : ℕ
@@ -28,6 +28,7 @@ pub record Told : Type 0 where
   pub accepted : Bool
   pub live : ℕ
 
+-- an answer as document 01 tells it
 abbrev pub told : Membership → Told
 told (Accepted n) = record { number = 0; at-fault = 0; accepted = true; live = n }
 told (Rejected n) = record { number = 0; at-fault = 0; accepted = false; live = n }

@@ -49,6 +49,7 @@ pub record Holds (file : List ℕ) (c : Counts) (w : List ℕ) (block : Block) :
   pub linked : Linked c file w
   pub explored : Explores (automatonOf file) 256 w (block .base) (Tables (block .count) (block .plain))
 
+-- what opening leaves in the words, by its answer: nothing is said of them where the file is refused
 abbrev pub HeldBy : (file w : List ℕ) → Opened → Type 0
 HeldBy file w (Refused n b) = Unit {0}
 HeldBy file w (Open c block) = Holds file c w block

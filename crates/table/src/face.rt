@@ -1,16 +1,10 @@
-// Face: what crates above read of an open file's block: its plain arcs in order, configuration after configuration, and its final
-// configurations.
+// Face: what crates above read of an open file's block: its plain arcs in order, configuration after configuration.
 ghost use mathlib.Core.Path.{_≡_};
 ghost use Prim.Native.Nat.{ℕ, _≤_, _<_};
 ghost use lib.ListN.{length};
-ghost use Rattle.automata.specs.Unfolding.{configurations, finalSet};
-ghost use Rattle.format.specs.Decoding.{automatonOf, letterOf};
+ghost use Rattle.format.specs.Decoding.{letterOf};
 ghost use Rattle.word_layout.specs.Layout.{blockEnd};
-ghost use Rattle.word_sets.specs.Sets.{view};
 ghost use Rattle.table.specs.Face.{plainAt, plainStart, plainEnd};
-ghost use Rattle.table.specs.Opening.{Holds};
-use super::finals::final_set;
-use format::Counts;
 use table_sets::end_of;
 use table_sets::first_arc;
 use table_sets::listed_arc;
@@ -52,13 +46,4 @@ pub fn plain_end(w: &[u64], block: Block, s: usize) -> usize
     ensures { λ r. ⌜ r ≡ plainEnd (now (w .entry)) block s ⌝ }
 {
     end_of(w, block.base, block.count, block.plain, s)
-}
-
-// Which configurations are final.
-// Cost: one look at each configuration.
-pub fn final_configurations(file: &[u8], c: Counts, w: &[u64], block: Block) -> [u64; 4]
-    requires { ⌜ Holds (now file) c (now w) block ⌝ }
-    ensures { λ r. ⌜ view (block .count) r ≡ finalSet (automatonOf (now (file .entry))) (configurations (automatonOf (now (file .entry))) 256) ⌝ }
-{
-    final_set(file, c, w, block.count)
 }

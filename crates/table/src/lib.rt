@@ -1,21 +1,20 @@
-// table: live sets over the block that exploring leaves in lent words, and membership by them.
+// table: the table of an automaton, built from its file in lent words; what crates above read of it; and membership.
 ghost use mathlib.Core.Path.{_≡_};
 ghost use lib.ListN.{length};
 ghost use Rattle.table.specs.Membership.{membershipOf};
 ghost use Rattle.table.specs.Opening.{openedOf, HeldBy};
 use format::Counts;
+use judging::judge_word;
 use table_explore::Explored;
 use table_explore::walk::explore_all;
 use word_layout::Block;
 use word_layout::FIRST_BLOCK;
 use word_rows::close_rows;
-use words::judge_word;
 
 pub mod block;
 pub mod face;
-pub mod file_steps;
 pub mod finals;
-pub mod words;
+pub mod judging;
 
 // What opening a file answers: its counts and the block of its automaton; or the number of a refusal and the automaton at fault.
 pub enum Opened {
@@ -38,11 +37,7 @@ pub fn open_file(file: &[u8], work: &mut [u64]) -> Opened
     let format::Reading::Valid(c) = reading else {
         return Opened::Refused(reading.number(), 1);
     };
-    let Explored::Tables {
-        configurations: count,
-        plain,
-    } = explore_all(file, c, work, FIRST_BLOCK)
-    else {
+    let Explored::Tables { count, plain } = explore_all(file, c, work, FIRST_BLOCK) else {
         return Opened::Refused(21, 1);
     };
     let block = Block {
@@ -78,7 +73,7 @@ pub fn accepts(file: &[u8], word: &[u8], work: &mut [u64]) -> Membership
         Opened::Refused(number, at_fault) => Membership::Refused(number, at_fault),
         Opened::Open(c, block) => {
             close_rows(work, block.base, block.count);
-            judge_word(file, c, word, work, block.base, block.count, block.plain)
+            judge_word(file, c, word, work, block)
         }
     }
 }

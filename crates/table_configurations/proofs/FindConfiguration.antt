@@ -19,30 +19,30 @@ use Rattle.word_fields.proofs.Laws.{word-number}
 pub placed-kept : {w w′ : List ℕ} {base : ℕ} → length w′ ≡ length w → Placed w base → Placed w′ base
 placed-kept e p = record { above = p .above; block = omega (arith, p .block) }
 
-module _ {w : List ℕ} {base known plain : ℕ} {all : List ℕ} {plains : List PlainArc} (p : Placed w base) (few : known ≤ 256) (t : Tabled w base known plain all plains) where
-  pub all-length : length all ≡ known
+module _ {w : List ℕ} {base count plain : ℕ} {all : List ℕ} {plains : List PlainArc} (p : Placed w base) (few : count ≤ 256) (t : Tabled w base count plain all plains) where
+  pub all-length : length all ≡ count
   all-length = rw (← t .table) (simp (length-take, length-drop) (omega (arith, p .above, p .block)))
 
   -- word i of the table is configuration i
-  pub all-at : (i : ℕ) → i < known → getElem? all i ≡ some (getD w (configs + i) 0)
-  all-at i h = at-some all i 0 (omega (arith, all-length)) ∙ rw (← t .table, getD-take known (drop configs w) i 0 h, getD-drop configs w i 0)
+  pub all-at : (i : ℕ) → i < count → getElem? all i ≡ some (getD w (configs + i) 0)
+  all-at i h = at-some all i 0 (omega (arith, all-length)) ∙ rw (← t .table, getD-take count (drop configs w) i 0 h, getD-drop configs w i 0)
 
   -- no two of its words are the same
-  apart : (i j : ℕ) → i < known → j < known → getD w (configs + i) 0 ≡ getD w (configs + j) 0 → i ≡ j
+  apart : (i j : ℕ) → i < count → j < count → getD w (configs + i) 0 ≡ getD w (configs + j) 0 → i ≡ j
   apart i j h g e = one-number eqb eqb-iff all i j (t .distinct) (all-at i h) (all-at j g ∙ rw e)
 
-  module _ {key r : ℕ} (f : Found (WordAt w configs key) known r) where
+  module _ {key r : ℕ} (f : Found (WordAt w configs key) count r) where
     is-number : r ≡ number eqb key all
-    is-number = rw (← t .table) (word-number w configs known key r (omega (arith, p .above, p .block)) apart f)
+    is-number = rw (← t .table) (word-number w configs count key r (omega (arith, p .above, p .block)) apart f)
 
     -- it has the number r
-    pub met-old : {w′ : List ℕ} (c : ℕ) (α : Option ℕ) → r < known → Tabled w′ base known (plain + 1) all (plains ++ plainArc c α r ∷ [])
-        → Tabled w′ base known (plain + 1) (add eqb all key) (plains ++ plainArc c α (number eqb key all) ∷ [])
+    pub met-old : {w′ : List ℕ} (c : ℕ) (α : Option ℕ) → r < count → Tabled w′ base count (plain + 1) all (plains ++ plainArc c α r ∷ [])
+        → Tabled w′ base count (plain + 1) (add eqb all key) (plains ++ plainArc c α (number eqb key all) ∷ [])
     met-old c α h a = rw (add-old eqb key all (omega (arith, is-number, all-length)), ← is-number) a
 
     -- it has none
-    pub met-none : known ≤ r → number eqb key all ≡ known
+    pub met-none : count ≤ r → number eqb key all ≡ count
     met-none h = omega (arith, is-number, f .few)
 
-    pub met-many : known ≤ r → length (add eqb all key) ≡ known + 1
+    pub met-many : count ≤ r → length (add eqb all key) ≡ count + 1
     met-many h = rw (add-new eqb key all (omega (arith, met-none h, all-length)), length-append) (omega (arith, all-length))

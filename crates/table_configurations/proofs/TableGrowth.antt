@@ -30,21 +30,21 @@ use Rattle.table_configurations.proofs.NumberedArcs.{add-distinct}
 use Rattle.word_fields.proofs.Laws.{but-high, but-low, but-then, chain-kept, chain-start, field-same, kept-then, kept-wider, part-same}
 
 -- ---- other words change
-pub configured-kept : {w w′ : List ℕ} {known : ℕ} → ((j : ℕ) → configs ≤ j → j < mapEnd → getD w′ j 0 ≡ getD w j 0) → Configured w known → Configured w′ known
-configured-kept {w} {w′} {known} h c = record {
+pub configured-kept : {w w′ : List ℕ} {count : ℕ} → ((j : ℕ) → configs ≤ j → j < mapEnd → getD w′ j 0 ≡ getD w j 0) → Configured w count → Configured w′ count
+configured-kept {w} {w′} {count} h c = record {
   few = c .few;
   small = λ i l. rw (h (configs + i) (omega arith) (omega (arith, c .few))) (c .small i l);
   chain = chain-kept (λ j l. ap slot (sym (h (configs + j) (omega arith) (omega (arith, c .few)))))
       (λ s l. h (configHeads + s / 4) (omega arith) (omega arith)) (λ j l. h (configNexts + j / 4) (omega arith) (omega (arith, c .few))) (c .chain);
 }
 
-pub tabled-kept : {w w′ : List ℕ} {base known plain : ℕ} {all : List ℕ} {plains : List PlainArc} → known ≤ 256 → length w′ ≡ length w
+pub tabled-kept : {w w′ : List ℕ} {base count plain : ℕ} {all : List ℕ} {plains : List PlainArc} → count ≤ 256 → length w′ ≡ length w
     → ((j : ℕ) → configs ≤ j → j < mapEnd → getD w′ j 0 ≡ getD w j 0) → ((j : ℕ) → base ≤ j → j < startsAt base → getD w′ j 0 ≡ getD w j 0)
-    → Tabled w base known plain all plains → Tabled w′ base known plain all plains
-tabled-kept {w} {w′} {base} {known} {plain} {all} {plains} few e h g t = record {
-  table = part-same w w′ configs known e (λ j l. h (configs + j) (omega arith) (omega arith)) ∙ t .table;
+    → Tabled w base count plain all plains → Tabled w′ base count plain all plains
+tabled-kept {w} {w′} {base} {count} {plain} {all} {plains} few e h g t = record {
+  table = part-same w w′ configs count e (λ j l. h (configs + j) (omega arith) (omega arith)) ∙ t .table;
   distinct = t .distinct;
-  count = t .count;
+  counted = t .counted;
   sources = t .sources;
   list = λ l. fields-kept w w′ (arcsAt base) plain (λ j x y. g j (omega arith) (omega arith)) ∙ t .list l;
   rows = λ i j l. rw (related-kept w w′ base i e (λ k x y. g k (omega arith) (omega arith)) j) (t .rows i j l);
@@ -63,60 +63,60 @@ unfolding fieldsOf countFrom
 tabled-none w base = record {
   table = refl;
   distinct = tt;
-  count = refl;
+  counted = refl;
   sources = λ q m. absurd (List·Memᴰ·not-nil m);
   list = λ l. refl;
   rows = λ i j l. absurd (omega arith);
 }
 
 -- ---- a configuration more
--- it is written as word `known`, and its row holds it alone
-module _ {w w₁ w₂ : List ℕ} {base known key : ℕ} (p : Placed w base) (less : known < 256)
-    (k₁ : Kept (configs + known) (configNexts + known / 4 + 1) w w₁) (word : getD w₁ (configs + known) 0 ≡ key)
-    (k₂ : Kept (base + 4 * known) (base + 4 * known + 4) w₁ w₂) (row : (j : ℕ) → related w₂ base known j ≡ eqb j known) where
+-- it is written as word `count`, and its row holds it alone
+module _ {w w₁ w₂ : List ℕ} {base count key : ℕ} (p : Placed w base) (less : count < 256)
+    (k₁ : Kept (configs + count) (configNexts + count / 4 + 1) w w₁) (word : getD w₁ (configs + count) 0 ≡ key)
+    (k₂ : Kept (base + 4 * count) (base + 4 * count + 4) w₁ w₂) (row : (j : ℕ) → related w₂ base count j ≡ eqb j count) where
   pub new-kept : KeptBut configs mapEnd base (arcsAt base) w w₂
   new-kept = but-then (but-low (omega arith) (omega arith) (omega arith) k₁) (but-high (omega arith) (omega arith) (omega arith) k₂)
 
-  pub configured-new : key < 2 ^ 40 → Configured w known → WordChain w₁ configs configHeads configNexts (known + 1) → Configured w₂ (known + 1)
+  pub configured-new : key < 2 ^ 40 → Configured w count → WordChain w₁ configs configHeads configNexts (count + 1) → Configured w₂ (count + 1)
   configured-new h c ch = configured-kept (λ j x y. k₂ .below j (omega arith)) (record {
     few = omega arith;
-    small = λ i l. small i (ℕ-discrete i known) l;
+    small = λ i l. small i (ℕ-discrete i count) l;
     chain = ch;
   })
     where
-      small : (i : ℕ) → Dec (i ≡ known) → i < known + 1 → getD w₁ (configs + i) 0 < 2 ^ 40
+      small : (i : ℕ) → Dec (i ≡ count) → i < count + 1 → getD w₁ (configs + i) 0 < 2 ^ 40
       small i (yes e) l = rw (e, word) h
       small i (no n) l = rw (k₁ .below (configs + i) (omega arith)) (c .small i (omega arith))
 
-  pub tabled-new : (plain : ℕ) (all : List ℕ) (plains : List PlainArc) → Tabled w base known plain all plains → number eqb key all ≡ known
-      → Tabled w₂ base (known + 1) plain (add eqb all key) plains
+  pub tabled-new : (plain : ℕ) (all : List ℕ) (plains : List PlainArc) → Tabled w base count plain all plains → number eqb key all ≡ count
+      → Tabled w₂ base (count + 1) plain (add eqb all key) plains
   tabled-new plain all plains t n = record {
-    table = rw add-one (take-suc (drop configs w₂) known 0 (simp length-drop (omega (arith, k₂ .long, k₁ .long)))
-        ∙ ap₂ (λ (l : List ℕ) (x : ℕ). l ++ x ∷ []) (part-same w w₂ configs known (k₂ .long ∙ k₁ .long) (λ j l. old j l) ∙ t .table)
-        (getD-drop configs w₂ known 0 ∙ k₂ .below (configs + known) (omega arith) ∙ word)
+    table = rw add-one (take-suc (drop configs w₂) count 0 (simp length-drop (omega (arith, k₂ .long, k₁ .long)))
+        ∙ ap₂ (λ (l : List ℕ) (x : ℕ). l ++ x ∷ []) (part-same w w₂ configs count (k₂ .long ∙ k₁ .long) (λ j l. old j l) ∙ t .table)
+        (getD-drop configs w₂ count 0 ∙ k₂ .below (configs + count) (omega arith) ∙ word)
         ∙ sym (add-new eqb key all (omega (arith, n, long))));
     distinct = add-distinct all key (t .distinct);
-    count = t .count;
+    counted = t .counted;
     sources = λ q m. omega (arith, t .sources q m);
     list = λ l. fields-kept w w₂ (arcsAt base) plain (λ j x y. k₂ .above j (omega arith) ∙ k₁ .above j (omega arith)) ∙ t .list l;
-    rows = λ i j l. rows i j l (ℕ-discrete i known);
+    rows = λ i j l. rows i j l (ℕ-discrete i count);
   }
     where
-      old : (j : ℕ) → j < known → getD w₂ (configs + j) 0 ≡ getD w (configs + j) 0
+      old : (j : ℕ) → j < count → getD w₂ (configs + j) 0 ≡ getD w (configs + j) 0
       old j l = k₂ .below (configs + j) (omega arith) ∙ k₁ .below (configs + j) (omega arith)
 
-      long : length all ≡ known
+      long : length all ≡ count
       long = rw (← t .table) (simp (length-take, length-drop) (omega arith))
 
-      rows : (i j : ℕ) → i < known + 1 → Dec (i ≡ known) → T (related w₂ base i j) ↔ ((j ≡ i) ⊎ Moves plains i none j)
+      rows : (i j : ℕ) → i < count + 1 → Dec (i ≡ count) → T (related w₂ base i j) ↔ ((j ≡ i) ⊎ Moves plains i none j)
       rows i j l (yes e) = rw (e, row j) (
-        λ x. inl (eqb→eq j known x),
-        λ s. ⊎-elim (λ x. rw (eq-eqb j known x) tt) (λ m. absurd (omega (arith, t .sources (plainArc known none j) m))) s,
+        λ x. inl (eqb→eq j count x),
+        λ s. ⊎-elim (λ x. rw (eq-eqb j count x) tt) (λ m. absurd (omega (arith, t .sources (plainArc count none j) m))) s,
       )
       rows i j l (no e) =
-          rw (related-kept w w₂ base i (k₂ .long ∙ k₁ .long) (λ k x y. other k x y (decLt i known)) j) (t .rows i j (omega arith))
+          rw (related-kept w w₂ base i (k₂ .long ∙ k₁ .long) (λ k x y. other k x y (decLt i count)) j) (t .rows i j (omega arith))
         where
-          other : (k : ℕ) → base + 4 * i ≤ k → k < base + 4 * i + 4 → Dec (i < known) → getD w₂ k 0 ≡ getD w k 0
+          other : (k : ℕ) → base + 4 * i ≤ k → k < base + 4 * i + 4 → Dec (i < count) → getD w₂ k 0 ≡ getD w k 0
           other k x y (yes h) = k₂ .below k (omega arith) ∙ k₁ .above k (omega arith)
           other k x y (no h) = k₂ .above k (omega arith) ∙ k₁ .above k (omega arith)
 
@@ -156,12 +156,12 @@ module _ {w w₁ w₂ : List ℕ} {base : ℕ} (c plain letter target : ℕ) (p 
     (k₁ : Kept base (arcsAt base) w w₁) (noted : (i j : ℕ) → related w₁ base i j ≡ ((eqb letter 255 && eqb i c && eqb j target) || related w base i j))
     (k₂ : Kept (arcsAt base) (startsAt base) w₁ w₂)
     (put : (k : ℕ) → field w₂ (arcsAt base) k ≡ cond (ltb plain 2048 && eqb k plain) (letter * 256 + target) (field w₁ (arcsAt base) k)) where
-  pub tabled-arc : (known : ℕ) (all : List ℕ) (plains : List PlainArc) → Tabled w base known plain all plains → c < known → known ≤ 256
-      → Tabled w₂ base known (plain + 1) all (plains ++ plainArc c (letterOf letter) target ∷ [])
-  tabled-arc known all plains t less few = record {
-    table = part-same w w₂ configs known (arc-kept k₁ k₂ .long) (λ j l. arc-kept k₁ k₂ .below (configs + j) (omega arith)) ∙ t .table;
+  pub tabled-arc : (count : ℕ) (all : List ℕ) (plains : List PlainArc) → Tabled w base count plain all plains → c < count → count ≤ 256
+      → Tabled w₂ base count (plain + 1) all (plains ++ plainArc c (letterOf letter) target ∷ [])
+  tabled-arc count all plains t less few = record {
+    table = part-same w w₂ configs count (arc-kept k₁ k₂ .long) (λ j l. arc-kept k₁ k₂ .below (configs + j) (omega arith)) ∙ t .table;
     distinct = t .distinct;
-    count = rw length-append (omega (arith, t .count));
+    counted = rw length-append (omega (arith, t .counted));
     sources = λ q m. ⊎-elim (λ k. t .sources q k) (λ k. let e : q ≡ plainArc c (letterOf letter) target = List·Memᴰ·eq-of-singleton k in rw e less) (List·Memᴰ·append-cases plains m);
     list = λ l. rw (add-one, fields-snoc w₂ (arcsAt base) plain, map-append listed plains (plainArc c (letterOf letter) target ∷ []))
         (ap₂ (λ (u v : List ℕ). u ++ v) (fields-ext w w₂ (arcsAt base) plain (λ j h. old l j h) ∙ t .list (omega arith)) (ap (λ (x : ℕ). x ∷ []) (new l)));
@@ -174,7 +174,7 @@ module _ {w w₁ w₂ : List ℕ} {base : ℕ} (c plain letter target : ℕ) (p 
       new : plain + 1 ≤ 2048 → field w₂ (arcsAt base) plain ≡ listed (plainArc c (letterOf letter) target)
       new l = put plain ∙ rw (lt-ltb plain 2048 (omega arith), eq-eqb plain plain refl, letter-back letter)
 
-      rows : (i j : ℕ) → i < known → T (related w₂ base i j) ↔ ((j ≡ i) ⊎ Moves (plains ++ plainArc c (letterOf letter) target ∷ []) i none j)
+      rows : (i j : ℕ) → i < count → T (related w₂ base i j) ↔ ((j ≡ i) ⊎ Moves (plains ++ plainArc c (letterOf letter) target ∷ []) i none j)
       rows i j l =
           let a = or-iff (eqb letter 255 && eqb i c && eqb j target) (related w base i j) in
           let r = t .rows i j l in

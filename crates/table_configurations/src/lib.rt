@@ -30,19 +30,19 @@ use word_sets::with;
 // What exploring finds: how many configurations and plain arcs there are, or that there are more than 256 configurations.
 pub enum Explored {
     TooMany,
-    Tables { configurations: usize, plain: usize },
+    Tables { count: usize, plain: usize },
 }
 
-// A new configuration gets the number `known`, and a row that holds it alone.
+// A new configuration gets the number `count`, and a row that holds it alone.
 // Cost: constant.
-pub fn add_configuration(w: &mut [u64], base: usize, known: usize, key: u64)
-    requires { ⌜ (known < 256) × (key < 2 ^ 40) × Placed (now w) base × Configured (now w) known ⌝ }
+pub fn add_configuration(w: &mut [u64], base: usize, count: usize, key: u64)
+    requires { ⌜ (count < 256) × (key < 2 ^ 40) × Placed (now w) base × Configured (now w) count ⌝ }
     ensures kept { λ _. ⌜ KeptBut configs mapEnd base (arcsAt base) (now (w .entry)) (now (w .exit)) ⌝ }
-    ensures configured { λ _. ⌜ Configured (now (w .exit)) (known + 1) ⌝ }
-    ensures tabled { λ _. ⌜ ((plain : ℕ) (all : List ℕ) (plains : List PlainArc) → Tabled (now (w .entry)) base known plain all plains → number eqb key all ≡ known → Tabled (now (w .exit)) base (known + 1) plain (add eqb all key) plains) ⌝ }
+    ensures configured { λ _. ⌜ Configured (now (w .exit)) (count + 1) ⌝ }
+    ensures tabled { λ _. ⌜ ((plain : ℕ) (all : List ℕ) (plains : List PlainArc) → Tabled (now (w .entry)) base count plain all plains → number eqb key all ≡ count → Tabled (now (w .exit)) base (count + 1) plain (add eqb all key) plains) ⌝ }
 {
-    add_word(w, CONFIGS, CONFIG_HEADS, CONFIG_NEXTS, known, key);
-    store(w, base, known, with(empty(), known));
+    add_word(w, CONFIGS, CONFIG_HEADS, CONFIG_NEXTS, count, key);
+    store(w, base, count, with(empty(), count));
 }
 
 // Row c gains the target where the letter's byte is that of the empty move.
@@ -74,7 +74,7 @@ fn list_arc(w: &mut [u64], base: usize, plain: usize, letter: usize, target: usi
 fn note_arc(w: &mut [u64], base: usize, c: usize, plain: usize, letter: usize, target: usize)
     requires { ⌜ (c < 256) × (letter < 256) × (target < 256) × Placed (now w) base ⌝ }
     ensures kept { λ _. ⌜ Kept base (startsAt base) (now (w .entry)) (now (w .exit)) ⌝ }
-    ensures tabled { λ _. ⌜ ((known : ℕ) (all : List ℕ) (plains : List PlainArc) → Tabled (now (w .entry)) base known plain all plains → c < known → known ≤ 256 → Tabled (now (w .exit)) base known (plain + 1) all (plains ++ plainArc c (letterOf letter) target ∷ [])) ⌝ }
+    ensures tabled { λ _. ⌜ ((count : ℕ) (all : List ℕ) (plains : List PlainArc) → Tabled (now (w .entry)) base count plain all plains → c < count → count ≤ 256 → Tabled (now (w .exit)) base count (plain + 1) all (plains ++ plainArc c (letterOf letter) target ∷ [])) ⌝ }
 {
     note_empty_move(w, base, c, letter, target);
     list_arc(w, base, plain, letter, target);
@@ -86,31 +86,31 @@ fn meet(
     w: &mut [u64],
     base: usize,
     c: usize,
-    known: usize,
+    count: usize,
     plain: usize,
     letter: usize,
     key: u64,
 ) -> Explored
-    requires { ⌜ (c < known) × (letter < 256) × (key < 2 ^ 40) × (plain < 2 ^ 32) × Placed (now w) base × Configured (now w) known ⌝ }
+    requires { ⌜ (c < count) × (letter < 256) × (key < 2 ^ 40) × (plain < 2 ^ 32) × Placed (now w) base × Configured (now w) count ⌝ }
     ensures kept { λ _. ⌜ KeptBut configs mapEnd base (startsAt base) (now (w .entry)) (now (w .exit)) ⌝ }
-    ensures safe { λ r. ⌜ Safe (now (w .exit)) known (plain + 1) r ⌝ }
-    ensures met { λ r. ⌜ Met (now (w .entry)) (now (w .exit)) base known plain c (letterOf letter) key r ⌝ }
+    ensures safe { λ r. ⌜ Safe (now (w .exit)) count (plain + 1) r ⌝ }
+    ensures met { λ r. ⌜ Met (now (w .entry)) (now (w .exit)) base count plain c (letterOf letter) key r ⌝ }
 {
-    let target = find_word(w, CONFIGS, CONFIG_HEADS, CONFIG_NEXTS, known, key);
-    if target < known {
+    let target = find_word(w, CONFIGS, CONFIG_HEADS, CONFIG_NEXTS, count, key);
+    if target < count {
         note_arc(w, base, c, plain, letter, target);
         return Explored::Tables {
-            configurations: known,
+            count,
             plain: plain + 1,
         };
     }
-    if known == 256 {
+    if count == 256 {
         return Explored::TooMany;
     }
-    add_configuration(w, base, known, key);
-    note_arc(w, base, c, plain, letter, known);
+    add_configuration(w, base, count, key);
+    note_arc(w, base, c, plain, letter, count);
     Explored::Tables {
-        configurations: known + 1,
+        count: count + 1,
         plain: plain + 1,
     }
 }
@@ -124,14 +124,14 @@ pub fn arrive(
     w: &mut [u64],
     base: usize,
     c: usize,
-    known: usize,
+    count: usize,
     plain: usize,
 ) -> Explored
-    requires { ⌜ (at + 4 ≤ length (now file)) × (regs < 2 ^ 32) × (c < known) × (plain < 2 ^ 32) × Placed (now w) base × Configured (now w) known ⌝ }
+    requires { ⌜ (at + 4 ≤ length (now file)) × (regs < 2 ^ 32) × (c < count) × (plain < 2 ^ 32) × Placed (now w) base × Configured (now w) count ⌝ }
     ensures kept { λ _. ⌜ KeptBut configs mapEnd base (startsAt base) (now (w .entry)) (now (w .exit)) ⌝ }
-    ensures safe { λ r. ⌜ Safe (now (w .exit)) known (plain + 1) r ⌝ }
-    ensures met { λ r. ⌜ Met (now (w .entry)) (now (w .exit)) base known plain c (letterOf (getD (now (file .entry)) (at + 1) 0)) (regs + getD (now (file .entry)) (at + 2) 0 * 2 ^ 32) r ⌝ }
+    ensures safe { λ r. ⌜ Safe (now (w .exit)) count (plain + 1) r ⌝ }
+    ensures met { λ r. ⌜ Met (now (w .entry)) (now (w .exit)) base count plain c (letterOf (getD (now (file .entry)) (at + 1) 0)) (regs + getD (now (file .entry)) (at + 2) 0 * 2 ^ 32) r ⌝ }
 {
     let key = configuration(byte(file, at + 2), regs);
-    meet(w, base, c, known, plain, byte(file, at + 1), key)
+    meet(w, base, c, count, plain, byte(file, at + 1), key)
 }

@@ -24,13 +24,13 @@ use Rattle.table_configurations.proofs.Laws.{all-at, all-length, configured-kep
 use Rattle.word_fields.proofs.Laws.{but-high, but-same, but-then, but-wider, field-same}
 
 -- c of the configurations have been walked, those of m arcs at the front of l
-pub record Walking (m : ℕ) (l w₀ : List ℕ) (base : ℕ) (w : List ℕ) (k p c : ℕ) : Type 0 where
+pub record Walking (m : ℕ) (l w₀ : List ℕ) (base : ℕ) (w : List ℕ) (count plain c : ℕ) : Type 0 where
   pub kept : KeptBut configs mapEnd base (blockEnd base) w₀ w
-  pub configured : Configured w k
+  pub configured : Configured w count
   pub turns : c ≤ 256
-  pub few : p ≤ c * 2048
-  pub tabled : Tabled w base k p (knownPacked m l c) (plainsUpTo m l c)
-  pub starts : p ≤ 2048 → (s : ℕ) → s < c → field w (startsAt base) s ≡ length (plainsUpTo m l s)
+  pub few : plain ≤ c * 2048
+  pub tabled : Tabled w base count plain (knownPacked m l c) (plainsUpTo m l c)
+  pub starts : plain ≤ 2048 → (s : ℕ) → s < c → field w (startsAt base) s ≡ length (plainsUpTo m l s)
 
 pub walking-start : {m : ℕ} {l w : List ℕ} {base : ℕ} → Configured w 1 → Tabled w base 1 0 (0 ∷ []) [] → Walking m l w base w 1 0 0
 unfolding knownPacked known plainsUpTo
@@ -44,25 +44,25 @@ walking-start {w = w} {base = base} g t = record {
 }
 
 -- ---- a turn at configuration c: where its plain arcs start has been noted, in w₁
-pub record Noted (m : ℕ) (l w₀ : List ℕ) (base : ℕ) (w w₁ : List ℕ) (k p c : ℕ) : Type 0 where
+pub record Noted (m : ℕ) (l w₀ : List ℕ) (base : ℕ) (w w₁ : List ℕ) (count plain c : ℕ) : Type 0 where
   pub few : m ≤ 2048
   pub place : Placed w₀ base
-  pub walking : Walking m l w₀ base w k p c
-  pub less : c < k
+  pub walking : Walking m l w₀ base w count plain c
+  pub less : c < count
   pub kept : Kept (startsAt base) (blockEnd base) w w₁
-  pub start : (s : ℕ) → field w₁ (startsAt base) s ≡ cond (leb p 2048 && eqb s c) p (field w (startsAt base) s)
+  pub start : (s : ℕ) → field w₁ (startsAt base) s ≡ cond (leb plain 2048 && eqb s c) plain (field w (startsAt base) s)
 
-module _ {m : ℕ} {l w₀ : List ℕ} {base : ℕ} {w w₁ : List ℕ} {k p c : ℕ} (n : Noted m l w₀ base w w₁ k p c) where
+module _ {m : ℕ} {l w₀ : List ℕ} {base : ℕ} {w w₁ : List ℕ} {count plain c : ℕ} (n : Noted m l w₀ base w w₁ count plain c) where
   pub placed-noted : Placed w₁ base
   placed-noted = placed-kept (n .kept .long ∙ n .walking .kept .long) (n .place)
 
-  pub configured-noted : Configured w₁ k
+  pub configured-noted : Configured w₁ count
   configured-noted = configured-kept (λ j x y. n .kept .below j (omega (arith, n .place .above))) (n .walking .configured)
 
   pub kept-noted : KeptBut configs mapEnd base (blockEnd base) w₀ w₁
   kept-noted = but-then (n .walking .kept) (but-high (omega (arith, n .place .above)) (omega arith) (omega arith) (n .kept))
 
-  tabled-noted : Tabled w₁ base k p (knownPacked m l c) (plainsUpTo m l c)
+  tabled-noted : Tabled w₁ base count plain (knownPacked m l c) (plainsUpTo m l c)
   tabled-noted = tabled-kept (n .walking .configured .few) (n .kept .long) (λ j x y. n .kept .below j (omega (arith, n .place .above))) (λ j x y. n .kept .below j y) (n .walking .tabled)
 
   abbrev own : ℕ
@@ -82,9 +82,9 @@ module _ {m : ℕ} {l w₀ : List ℕ} {base : ℕ} {w w₁ : List ℕ} {k p c :
   pub kept-walked : {w₂ : List ℕ} → KeptBut configs mapEnd base (startsAt base) w₁ w₂ → KeptBut configs mapEnd base (blockEnd base) w₀ w₂
   kept-walked k₂ = but-then kept-noted (but-wider (omega arith) (omega arith) (omega arith) (omega arith) k₂)
 
-  pub walking-more : {w₂ : List ℕ} {k′ p′ : ℕ} → KeptBut configs mapEnd base (startsAt base) w₁ w₂ → Counted w₂ k (p + m) k′ p′ → MetAll w₁ w₂ base k p c (hops m l own) (Tables k′ p′)
-      → Walking m l w₀ base w₂ k′ p′ (c + 1)
-  walking-more {w₂} {k′} {p′} k₂ s met = record {
+  pub walking-more : {w₂ : List ℕ} {count′ plain′ : ℕ} → KeptBut configs mapEnd base (startsAt base) w₁ w₂ → Counted w₂ count (plain + m) count′ plain′ → MetAll w₁ w₂ base count plain c (hops m l own) (Tables count′ plain′)
+      → Walking m l w₀ base w₂ count′ plain′ (c + 1)
+  walking-more {w₂} {count′} {plain′} k₂ s met = record {
     kept = kept-walked k₂;
     configured = s .configured;
     turns = omega (arith, n .less, n .walking .configured .few);
@@ -93,18 +93,18 @@ module _ {m : ℕ} {l w₀ : List ℕ} {base : ℕ} {w w₁ : List ℕ} {k p c :
     starts = λ h i less. field-same w₁ w₂ (startsAt base) i (k₂ .above (startsAt base + i / 4) (omega arith)) ∙ n .start i ∙ start h i less (ℕ-discrete i c);
   }
     where
-      t : Tabled w₂ base k′ p′ (addAll eqb (knownPacked m l c) (tos (hops m l own))) (plainsUpTo m l c ++ plainsOf c (knownPacked m l c) (hops m l own))
+      t : Tabled w₂ base count′ plain′ (addAll eqb (knownPacked m l c) (tos (hops m l own))) (plainsUpTo m l c ++ plainsOf c (knownPacked m l c) (hops m l own))
       t = met (knownPacked m l c) (plainsUpTo m l c) tabled-noted
 
-      fewer : p ≤ p′
-      fewer = omega (arith, t .count, n .walking .tabled .count, length-append (plainsUpTo m l c) (plainsOf c (knownPacked m l c) (hops m l own)))
+      fewer : plain ≤ plain′
+      fewer = omega (arith, t .counted, n .walking .tabled .counted, length-append (plainsUpTo m l c) (plainsOf c (knownPacked m l c) (hops m l own)))
 
-      start : p′ ≤ 2048 → (i : ℕ) → i < c + 1 → Dec (i ≡ c) → cond (leb p 2048 && eqb i c) p (field w (startsAt base) i) ≡ length (plainsUpTo m l i)
-      start h i less (yes e) = rw (le-leb p 2048 (omega (arith, fewer)), eq-eqb i c e, e) (n .walking .tabled .count)
-      start h i less (no d) = rw (le-leb p 2048 (omega (arith, fewer)), ne-eqb i c d) (n .walking .starts (omega (arith, fewer)) i (omega arith))
+      start : plain′ ≤ 2048 → (i : ℕ) → i < c + 1 → Dec (i ≡ c) → cond (leb plain 2048 && eqb i c) plain (field w (startsAt base) i) ≡ length (plainsUpTo m l i)
+      start h i less (yes e) = rw (le-leb plain 2048 (omega (arith, fewer)), eq-eqb i c e, e) (n .walking .tabled .counted)
+      start h i less (no d) = rw (le-leb plain 2048 (omega (arith, fewer)), ne-eqb i c d) (n .walking .starts (omega (arith, fewer)) i (omega arith))
 
   -- more than so many met are more than so many in all
-  pub walking-over : (L : ℕ) → c < L → (w₂ : List ℕ) → MetAll w₁ w₂ base k p c (hops m l own) TooMany → 256 < length (knownPacked m l L)
+  pub walking-over : (L : ℕ) → c < L → (w₂ : List ℕ) → MetAll w₁ w₂ base count plain c (hops m l own) TooMany → 256 < length (knownPacked m l L)
   unfolding knownPacked
   walking-over L h w₂ met =
       let f = met (knownPacked m l c) (plainsUpTo m l c) tabled-noted in
@@ -117,7 +117,7 @@ unfolding plainsUpTo knownPacked
 plains-ended m l c zero h = rw add-zero
 plains-ended m l c (suc j) h = rw (add-suc c j, known-ended eqb (nextPacked m l) (0 ∷ []) c j h, at-none (knownPacked m l c) (c + j) (omega arith), append-nil) (plains-ended m l c j h)
 
-pub walking-end : {m : ℕ} {l w₀ : List ℕ} {base : ℕ} {w : List ℕ} {k p c : ℕ} (L : ℕ) → Placed w base → Walking m l w₀ base w k p c → k ≤ c → c ≤ L → Tabled w base k p (knownPacked m l L) (plainsUpTo m l L)
+pub walking-end : {m : ℕ} {l w₀ : List ℕ} {base : ℕ} {w : List ℕ} {count plain c : ℕ} (L : ℕ) → Placed w base → Walking m l w₀ base w count plain c → count ≤ c → c ≤ L → Tabled w base count plain (knownPacked m l L) (plainsUpTo m l L)
 unfolding knownPacked
 walking-end {m} {l} {c = c} L place g h f =
     let e : c + (L - c) ≡ L = omega arith in

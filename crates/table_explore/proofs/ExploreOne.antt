@@ -4,7 +4,6 @@ use mathlib.Core.Logic.{⊎-elim}
 use Prim.Native.Nat.{_%_, _*_, _+_, _/_, _<_, _^_, _≤_, ℕ}
 use lib.Dec.{eqb}
 use lib.ListN.{drop, getD, length}
-use lib.Seq.{drop-drop, getD-drop}
 use mathlib.Core.List.{List, [], _++_, _∷_, append-assoc, append-nil}
 use mathlib.Core.Option.{none}
 use native.Mathlib.Omega.{arith}
@@ -14,7 +13,7 @@ use Rattle.automata.specs.Lists.{collect, prepend}
 use Rattle.automata.specs.Live.{PlainArc}
 use Rattle.table_operations.specs.Arcs.{ArcAt, Indexed, Linked, Walkable, placeOf}
 use Rattle.word_layout.specs.Layout.{arcHeads, arcNexts, configs, mapEnd, offsets, startsAt}
-use Rattle.table_operations.specs.Packed.{Hop, hop, hopWith, hopsIn, performPacked, tos}
+use Rattle.table_operations.specs.Packed.{Hop, hopWith, hopsIn, performPacked, tos}
 use Rattle.table_configurations.specs.Known.{plainArc, plainsOf}
 use Rattle.table_configurations.specs.Tables.{Configured, Counted, Met, MetAll, Tabled}
 use Rattle.table_configurations.specs.declared.Explored.the-variants.{Tables, TooMany}
@@ -25,24 +24,24 @@ use Rattle.file_fields.specs.declared.Counts.{Counts}
 use Rattle.word_fields.specs.Chains.{last}
 use Rattle.word_fields.specs.Fields.{field}
 use Rattle.automata.proofs.Laws.{addAll-length}
-use Rattle.table_operations.proofs.Laws.{entry-at, hops-chosen, hopsOf, stateOf}
+use Rattle.table_operations.proofs.Laws.{entry-at, hop-at, hops-chosen, hopsOf, stateOf}
 use Rattle.word_fields.proofs.Laws.{OnChain, but-same, but-then, chosen, chosen-off, chosen-on, field-same, last-is, off-chain, on-chain}
 
 -- with the hops that are left the tables come to be those of `whole` and `list`
-pub record Left (w : List ℕ) (base known plain c : ℕ) (rest : List Hop) (whole : List ℕ) (list : List PlainArc) : Type 0 where
+pub record Left (w : List ℕ) (base count plain c : ℕ) (rest : List Hop) (whole : List ℕ) (list : List PlainArc) : Type 0 where
   pub all : List ℕ
   pub plains : List PlainArc
-  pub tabled : Tabled w base known plain all plains
+  pub tabled : Tabled w base count plain all plains
   pub makes : addAll eqb all (tos rest) ≡ whole
   pub lists : plains ++ plainsOf c all rest ≡ list
 
-left-start : {w : List ℕ} {base known plain : ℕ} (c : ℕ) (rest : List Hop) {all : List ℕ} {plains : List PlainArc} → Tabled w base known plain all plains
-    → Left w base known plain c rest (addAll eqb all (tos rest)) (plains ++ plainsOf c all rest)
+left-start : {w : List ℕ} {base count plain : ℕ} (c : ℕ) (rest : List Hop) {all : List ℕ} {plains : List PlainArc} → Tabled w base count plain all plains
+    → Left w base count plain c rest (addAll eqb all (tos rest)) (plains ++ plainsOf c all rest)
 left-start c rest {all} {plains} t = record { all = all; plains = plains; tabled = t; makes = refl; lists = refl }
 
 -- the next hop is taken
-left-more : {w w′ : List ℕ} {base known plain k p c : ℕ} {h : Hop} {rest : List Hop} {whole : List ℕ} {list : List PlainArc} → Met w w′ base known plain c (h .letter) (h .to) (Tables k p)
-    → Left w base known plain c (h ∷ rest) whole list → Left w′ base k p c rest whole list
+left-more : {w w′ : List ℕ} {base count plain count′ plain′ c : ℕ} {h : Hop} {rest : List Hop} {whole : List ℕ} {list : List PlainArc} → Met w w′ base count plain c (h .letter) (h .to) (Tables count′ plain′)
+    → Left w base count plain c (h ∷ rest) whole list → Left w′ base count′ plain′ c rest whole list
 unfolding addAll plainsOf
 left-more {c = c} {h = h} {rest = rest} met l = record {
   all = add eqb (l .all) (h .to);
@@ -52,30 +51,30 @@ left-more {c = c} {h = h} {rest = rest} met l = record {
   lists = append-assoc (l .plains) (plainArc c (h .letter) (number eqb (h .to) (l .all)) ∷ []) (plainsOf c (add eqb (l .all) (h .to)) rest) ∙ l .lists;
 }
 
-left-over : {w : List ℕ} (w′ : List ℕ) {base known plain c : ℕ} {h : Hop} {rest : List Hop} {whole : List ℕ} {list : List PlainArc}
-    → Met w w′ base known plain c (h .letter) (h .to) TooMany → Left w base known plain c (h ∷ rest) whole list → 256 < length whole
+left-over : {w : List ℕ} (w′ : List ℕ) {base count plain c : ℕ} {h : Hop} {rest : List Hop} {whole : List ℕ} {list : List PlainArc}
+    → Met w w′ base count plain c (h .letter) (h .to) TooMany → Left w base count plain c (h ∷ rest) whole list → 256 < length whole
 unfolding addAll
 left-over w′ {h = h} {rest = rest} met l = omega (arith, met (l .all) (l .plains) (l .tabled), addAll-length eqb (add eqb (l .all) (h .to)) (tos rest), ap length (l .makes))
 
-left-end : {w : List ℕ} {base known plain c : ℕ} {whole : List ℕ} {list : List PlainArc} → Left w base known plain c [] whole list → Tabled w base known plain whole list
+left-end : {w : List ℕ} {base count plain c : ℕ} {whole : List ℕ} {list : List PlainArc} → Left w base count plain c [] whole list → Tabled w base count plain whole list
 unfolding addAll plainsOf
-left-end {w} {base} {known} {plain} l = rw (← l .makes, ← l .lists, append-nil (l .plains)) (l .tabled)
+left-end {w} {base} {count} {plain} l = rw (← l .makes, ← l .lists, append-nil (l .plains)) (l .tabled)
 
 -- ---- the arcs of configuration c, which is `own`, from the words w₀ on; entry j of their chain is next
-pub record Going (file w₀ : List ℕ) (n : Counts) (base c known₀ plain₀ own : ℕ) (w : List ℕ) (known plain j : ℕ) : Type 0 where
+pub record Going (file w₀ : List ℕ) (n : Counts) (base c count₀ plain₀ own : ℕ) (w : List ℕ) (count plain j : ℕ) : Type 0 where
   pub kept : KeptBut configs mapEnd base (startsAt base) w₀ w
-  pub more : known₀ ≤ known
-  pub configured : Configured w known
+  pub more : count₀ ≤ count
+  pub configured : Configured w count
   pub upto : ℕ
   pub few : upto ≤ n .arcs
   pub here : j ≡ last (stateOf file w₀) (own / 2 ^ 32) upto
   pub room : plain + upto ≤ plain₀ + n .arcs
-  pub left : (all : List ℕ) (plains : List PlainArc) → Tabled w₀ base known₀ plain₀ all plains
-      → Left w base known plain c (hopsOf file w₀ own (chosen (stateOf file w₀) (own / 2 ^ 32) upto)) (addAll eqb all (tos (hopsIn n file own))) (plains ++ plainsOf c all (hopsIn n file own))
+  pub left : (all : List ℕ) (plains : List PlainArc) → Tabled w₀ base count₀ plain₀ all plains
+      → Left w base count plain c (hopsOf file w₀ own (chosen (stateOf file w₀) (own / 2 ^ 32) upto)) (addAll eqb all (tos (hopsIn n file own))) (plains ++ plainsOf c all (hopsIn n file own))
 
-module _ {file w₀ : List ℕ} {n : Counts} (base c known₀ plain₀ own : ℕ) where
-  pub going-start : {j : ℕ} → Indexed n file w₀ → Linked n file w₀ → Configured w₀ known₀ → own / 2 ^ 32 < 256 → j ≡ field w₀ arcHeads (own / 2 ^ 32)
-      → Going file w₀ n base c known₀ plain₀ own w₀ known₀ plain₀ j
+module _ {file w₀ : List ℕ} {n : Counts} (base c count₀ plain₀ own : ℕ) where
+  pub going-start : {j : ℕ} → Indexed n file w₀ → Linked n file w₀ → Configured w₀ count₀ → own / 2 ^ 32 < 256 → j ≡ field w₀ arcHeads (own / 2 ^ 32)
+      → Going file w₀ n base c count₀ plain₀ own w₀ count₀ plain₀ j
   going-start i l k small e = record {
     kept = but-same configs mapEnd base (startsAt base) w₀;
     more = omega arith;
@@ -87,23 +86,17 @@ module _ {file w₀ : List ℕ} {n : Counts} (base c known₀ plain₀ own : ℕ
     left = λ all plains t. rw (← hops-chosen n file w₀ own i) (left-start c (hopsIn n file own) t);
   }
 
--- the arc at a place of the file, performed on `own`
-pub hop-at : (file : List ℕ) (at own : ℕ)
-    → hop (drop at file) own ≡ hopWith (performPacked (getD file (at + 3) 0) (drop (at + 4) file) (own % 2 ^ 32)) (letterOf (getD file (at + 1) 0)) (getD file (at + 2) 0)
-unfolding hop
-hop-at file at own = rw (getD-drop at file 1 0, getD-drop at file 2 0, getD-drop at file 3 0, drop-drop 4 at file)
-
 -- ---- a turn at entry j: its arc is at `at`, and the entry after it is j′
-pub record Turn (file w₀ : List ℕ) (n : Counts) (base c known₀ plain₀ own : ℕ) (w : List ℕ) (known plain j at j′ : ℕ) : Type 0 where
+pub record Turn (file w₀ : List ℕ) (n : Counts) (base c count₀ plain₀ own : ℕ) (w : List ℕ) (count plain j at j′ : ℕ) : Type 0 where
   pub walkable : Walkable n file
   pub indexed : Indexed n file w₀
   pub linked : Linked n file w₀
-  pub going : Going file w₀ n base c known₀ plain₀ own w known plain j
+  pub going : Going file w₀ n base c count₀ plain₀ own w count plain j
   pub less : j < n .arcs
   pub is : at ≡ placeOf w j
   pub next : j′ ≡ field w arcNexts j
 
-module _ {file w₀ : List ℕ} {n : Counts} {base c known₀ plain₀ own : ℕ} {w : List ℕ} {known plain j at j′ : ℕ} (t : Turn file w₀ n base c known₀ plain₀ own w known plain j at j′) where
+module _ {file w₀ : List ℕ} {n : Counts} {base c count₀ plain₀ own : ℕ} {w : List ℕ} {count plain j at j′ : ℕ} (t : Turn file w₀ n base c count₀ plain₀ own w count plain j at j′) where
   few : j < 2048
   few = omega (arith, t .less, t .walkable .lies .few)
 
@@ -136,7 +129,7 @@ module _ {file w₀ : List ℕ} {n : Counts} {base c known₀ plain₀ own : ℕ
     unroll = rw (chosen-on (stateOf file w₀) (own / 2 ^ 32) (t .going .upto) j (on .below) (on .keyed) (on .none), ← place, hop-at file at own, size)
 
     -- they fail
-    pub going-failed : outcome ≡ Failed → Going file w₀ n base c known₀ plain₀ own w known plain j′
+    pub going-failed : outcome ≡ Failed → Going file w₀ n base c count₀ plain₀ own w count plain j′
     going-failed f = record {
       kept = t .going .kept;
       more = t .going .more;
@@ -153,12 +146,12 @@ module _ {file w₀ : List ℕ} {n : Counts} {base c known₀ plain₀ own : ℕ
       abbrev taken : Hop
       taken = record { letter = letterOf (getD file (at + 1) 0); to = v + getD file (at + 2) 0 * 2 ^ 32 }
 
-      passed : (all : List ℕ) (plains : List PlainArc) → Tabled w₀ base known₀ plain₀ all plains
-          → Left w base known plain c (taken ∷ rest) (addAll eqb all (tos (hopsIn n file own))) (plains ++ plainsOf c all (hopsIn n file own))
+      passed : (all : List ℕ) (plains : List PlainArc) → Tabled w₀ base count₀ plain₀ all plains
+          → Left w base count plain c (taken ∷ rest) (addAll eqb all (tos (hopsIn n file own))) (plains ++ plainsOf c all (hopsIn n file own))
       passed all plains s = rw (unroll, f) at (t .going .left all plains s)
 
-      pub going-met : {w′ : List ℕ} {k q : ℕ} → KeptBut configs mapEnd base (startsAt base) w w′ → Counted w′ known (plain + 1) k q → Met w w′ base known plain c (taken .letter) (taken .to) (Tables k q)
-          → Going file w₀ n base c known₀ plain₀ own w′ k q j′
+      pub going-met : {w′ : List ℕ} {count′ plain′ : ℕ} → KeptBut configs mapEnd base (startsAt base) w w′ → Counted w′ count (plain + 1) count′ plain′ → Met w w′ base count plain c (taken .letter) (taken .to) (Tables count′ plain′)
+          → Going file w₀ n base c count₀ plain₀ own w′ count′ plain′ j′
       going-met b s met = record {
         kept = but-then (t .going .kept) b;
         more = omega (arith, t .going .more, s .more);
@@ -171,12 +164,12 @@ module _ {file w₀ : List ℕ} {n : Counts} {base c known₀ plain₀ own : ℕ
       }
 
       -- or there are too many
-      pub going-over : (w′ : List ℕ) → Met w w′ base known plain c (taken .letter) (taken .to) TooMany → MetAll w₀ w′ base known₀ plain₀ c (hopsIn n file own) TooMany
+      pub going-over : (w′ : List ℕ) → Met w w′ base count plain c (taken .letter) (taken .to) TooMany → MetAll w₀ w′ base count₀ plain₀ c (hopsIn n file own) TooMany
       going-over w′ met all plains h = left-over w′ met (passed all plains h)
 
 -- ---- the end of the chain
-pub going-end : {file w₀ : List ℕ} {n : Counts} {base c known₀ plain₀ own : ℕ} {w : List ℕ} {known plain j : ℕ} → Going file w₀ n base c known₀ plain₀ own w known plain j
-    → n .arcs ≤ j → MetAll w₀ w base known₀ plain₀ c (hopsIn n file own) (Tables known plain)
+pub going-end : {file w₀ : List ℕ} {n : Counts} {base c count₀ plain₀ own : ℕ} {w : List ℕ} {count plain j : ℕ} → Going file w₀ n base c count₀ plain₀ own w count plain j
+    → n .arcs ≤ j → MetAll w₀ w base count₀ plain₀ c (hopsIn n file own) (Tables count plain)
 unfolding collect
 going-end {file} {w₀} {own = own} g h all plains t =
     left-end (rw (chosen-off (stateOf file w₀) (own / 2 ^ 32) (g .upto) (off-chain (stateOf file w₀) (own / 2 ^ 32) (g .few) (g .here) h)) at (g .left all plains t))

@@ -28,26 +28,26 @@ module _ (x : Automaton) (n m : ℕ) (l : List ℕ) (few : n ≤ 8) (regs : x .r
   unfolding exploredOf
   explores-many w base h = record { answer = rw (lt-ltb L (length (configurations x L)) (omega (arith, all-many))); block = tt }
 
-  -- the walk has ended with k
-  module _ {w₀ w : List ℕ} {base k p c : ℕ} (place : Placed w base) (g : Walking m l w₀ base w k p c) (over : k ≤ c) where
-    tabled : Tabled w base k p (knownPacked m l L) (plainsUpTo m l L)
+  -- the walk has ended with `count` of them
+  module _ {w₀ w : List ℕ} {base count plain c : ℕ} (place : Placed w base) (g : Walking m l w₀ base w count plain c) (over : count ≤ c) where
+    tabled : Tabled w base count plain (knownPacked m l L) (plainsUpTo m l L)
     tabled = walking-end L place g over (omega (arith, g .turns))
 
-    count : length (configurations x L) ≡ k
-    count = all-many ∙ all-length place (g .configured .few) tabled
+    many : length (configurations x L) ≡ count
+    many = all-many ∙ all-length place (g .configured .few) tabled
 
     plains : plainArcs x L ≡ plainsUpTo m l L
-    plains = plainArcs-packed x n m l few regs arcs ok L (omega (arith, count, g .configured .few))
+    plains = plainArcs-packed x n m l few regs arcs ok L (omega (arith, many, g .configured .few))
 
-    answered : Tables k p ≡ exploredOf x L
+    answered : Tables count plain ≡ exploredOf x L
     unfolding exploredOf
-    answered = rw (le-ltb L (length (configurations x L)) (omega (arith, count, g .configured .few)), count, plains) (ap (Tables k) (tabled .count))
+    answered = rw (le-ltb L (length (configurations x L)) (omega (arith, many, g .configured .few)), many, plains) (ap (Tables count) (tabled .counted))
 
-    started : (s : ℕ) → s < k → length (plainsUpTo m l s) ≡ startOf x L s
+    started : (s : ℕ) → s < count → length (plainsUpTo m l s) ≡ startOf x L s
     unfolding startOf
     started s h = ap length (sym (plainAll-packed x n m l few regs arcs ok L s (omega (arith, g .configured .few))))
 
-    pub explores-all : Explores x L w base (Tables k p)
+    pub explores-all : Explores x L w base (Tables count plain)
     explores-all = record {
       answer = answered;
       block = record {

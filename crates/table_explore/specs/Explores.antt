@@ -29,17 +29,19 @@ unfolding plainAll configurations
 startOf x L s = length (plainAll x (configurations x L) 0 (take s (configurations x L)))
 
 -- the words of a block whose walk has ended, its rows not closed yet
-pub record Walked (x : Automaton) (L : ℕ) (w : List ℕ) (base k p : ℕ) : Type 0 where
-  pub configured : Configured w k
-  pub table : take k (drop configs w) ≡ map pack (configurations x L)
-  pub arcs : p ≤ 2048 → fieldsOf w (arcsAt base) p ≡ map listed (plainArcs x L)
-  pub starts : p ≤ 2048 → (s : ℕ) → s < k → field w (startsAt base) s ≡ startOf x L s
-  pub rows : (i j : ℕ) → i < k → T (related w base i j) ↔ ((j ≡ i) ⊎ Moves (plainArcs x L) i none j)
+pub record Walked (x : Automaton) (L : ℕ) (w : List ℕ) (base count plain : ℕ) : Type 0 where
+  pub configured : Configured w count
+  pub table : take count (drop configs w) ≡ map pack (configurations x L)
+  pub arcs : plain ≤ 2048 → fieldsOf w (arcsAt base) plain ≡ map listed (plainArcs x L)
+  pub starts : plain ≤ 2048 → (s : ℕ) → s < count → field w (startsAt base) s ≡ startOf x L s
+  pub rows : (i j : ℕ) → i < count → T (related w base i j) ↔ ((j ≡ i) ⊎ Moves (plainArcs x L) i none j)
 
+-- the words once the walk has answered: nothing is said of them where there are too many configurations
 abbrev pub WalkedAs : Automaton → ℕ → List ℕ → ℕ → Explored → Type 0
 WalkedAs x L w base TooMany = Unit {0}
-WalkedAs x L w base (Tables k p) = Walked x L w base k p
+WalkedAs x L w base (Tables count plain) = Walked x L w base count plain
 
+-- what exploring x answers and leaves in the block from `base` on
 pub record Explores (x : Automaton) (L : ℕ) (w : List ℕ) (base : ℕ) (r : Explored) : Type 0 where
   pub answer : r ≡ exploredOf x L
   pub block : WalkedAs x L w base r

@@ -44,17 +44,17 @@ fn explore_one(
     w: &mut [u64],
     base: usize,
     c: usize,
-    from_known: usize,
+    from_count: usize,
     from_plain: usize,
 ) -> Explored
     requires { ⌜ Walkable counts (now file) × Indexed counts (now file) (now w) × Linked counts (now file) (now w) ⌝ }
-    requires { ⌜ (c < «from_known») × («from_plain» < 2 ^ 31) × Placed (now w) base × Configured (now w) «from_known» ⌝ }
+    requires { ⌜ (c < «from_count») × («from_plain» < 2 ^ 31) × Placed (now w) base × Configured (now w) «from_count» ⌝ }
     ensures kept { λ _. ⌜ KeptBut configs mapEnd base (startsAt base) (now (w .entry)) (now (w .exit)) ⌝ }
-    ensures safe { λ r. ⌜ Safe (now (w .exit)) «from_known» («from_plain» + counts .arcs) r ⌝ }
-    ensures met { λ r. ⌜ MetAll (now (w .entry)) (now (w .exit)) base «from_known» «from_plain» c (hopsIn counts (now (file .entry)) (getD (now (w .entry)) (configs + c) 0)) r ⌝ }
+    ensures safe { λ r. ⌜ Safe (now (w .exit)) «from_count» («from_plain» + counts .arcs) r ⌝ }
+    ensures met { λ r. ⌜ MetAll (now (w .entry)) (now (w .exit)) base «from_count» «from_plain» c (hopsIn counts (now (file .entry)) (getD (now (w .entry)) (configs + c) 0)) r ⌝ }
 {
     let own = w[CONFIGS + c];
-    let mut known = from_known;
+    let mut count = from_count;
     let mut plain = from_plain;
     let mut j = get16(w, ARC_HEADS, state_of(own));
     'arcs: while j < counts.arcs {
@@ -74,23 +74,20 @@ fn explore_one(
             }
             k += 1;
         }
-        match arrive(file, at, regs, w, base, c, known, plain) {
+        match arrive(file, at, regs, w, base, c, count, plain) {
             Explored::TooMany => {
                 return Explored::TooMany;
             }
             Explored::Tables {
-                configurations: more,
+                count: more,
                 plain: listed,
             } => {
-                known = more;
+                count = more;
                 plain = listed;
             }
         }
     }
-    Explored::Tables {
-        configurations: known,
-        plain,
-    }
+    Explored::Tables { count, plain }
 }
 
 // The chains of arcs, and the first configuration: state 0 with all registers empty.
@@ -128,27 +125,24 @@ pub fn explore_all(file: &[u8], counts: Counts, w: &mut [u64], base: usize) -> E
     ensures explores { λ r. ⌜ ((x : Automaton) → x .registers ≡ counts .registers → x .arcs ≡ arcsOf (counts .arcs) (drop (firstArc counts) (now (file .entry))) → Explores x 256 (now (w .exit)) base r) ⌝ }
 {
     prepare(file, counts, w, base);
-    let mut known: usize = 1;
+    let mut count: usize = 1;
     let mut plain: usize = 0;
     let mut c: usize = 0;
-    while c < known {
+    while c < count {
         note_start(w, base, c, plain);
-        match explore_one(file, counts, w, base, c, known, plain) {
+        match explore_one(file, counts, w, base, c, count, plain) {
             Explored::TooMany => {
                 return Explored::TooMany;
             }
             Explored::Tables {
-                configurations: more,
+                count: more,
                 plain: listed,
             } => {
-                known = more;
+                count = more;
                 plain = listed;
             }
         }
         c += 1;
     }
-    Explored::Tables {
-        configurations: known,
-        plain,
-    }
+    Explored::Tables { count, plain }
 }

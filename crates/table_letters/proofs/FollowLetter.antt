@@ -16,59 +16,60 @@ use Rattle.word_rows.specs.Rows.{related}
 use Rattle.word_sets.specs.Sets.{inSet}
 use Rattle.table_sets.specs.Stepping.{FromList, letterAt, targetAt}
 use Rattle.table_sets.proofs.Laws.{Onward}
+use Rattle.word_layout.specs.declared.Block.{Block}
 use Rattle.table_letters.specs.Lettered.{Followable, LetterChain, Sourced, sourceOf}
 
 -- one of the first `upto` listed arcs has the letter l and a live source, and leads to j
-pub record Leading (w : List ℕ) (base : ℕ) (set : List ℕ) (l upto j : ℕ) : Type 0 where
+pub record Leading (w : List ℕ) (block : Block) (set : List ℕ) (l upto j : ℕ) : Type 0 where
   pub at : ℕ
   pub below : at < upto
-  pub letter : letterAt w base at ≡ l
+  pub letter : letterAt w (block .base) at ≡ l
   pub lives : T (inSet set (sourceOf w at))
-  pub leads : T (related w base (targetAt w base at) j)
+  pub leads : T (related w (block .base) (targetAt w (block .base) at) j)
 
 -- k is the next arc on the chain of l
-pub record Following (w : List ℕ) (base plain : ℕ) (set : List ℕ) (l : ℕ) (out : List ℕ) (k : ℕ) : Type 0 where
+pub record Following (w : List ℕ) (block : Block) (set : List ℕ) (l : ℕ) (out : List ℕ) (k : ℕ) : Type 0 where
   pub upto : ℕ
-  pub few : upto ≤ plain
-  pub here : k ≡ last (letterAt w base) l upto
-  pub sets : (j : ℕ) → (T (inSet out j) ⊎ Leading w base set l upto j) ↔ Leading w base set l plain j
+  pub few : upto ≤ block .plain
+  pub here : k ≡ last (letterAt w (block .base)) l upto
+  pub sets : (j : ℕ) → (T (inSet out j) ⊎ Leading w block set l upto j) ↔ Leading w block set l (block .plain) j
 
-pub following-start : {w : List ℕ} {base plain : ℕ} (set out : List ℕ) {l k : ℕ} → LetterChain w base plain → l < 256 → k ≡ field w letterHeads l → ((j : ℕ) → inSet out j ≡ false) → Following w base plain set l out k
-following-start {plain = plain} set out {l} c h e none = record {
-  upto = plain;
+pub following-start : {w : List ℕ} {block : Block} (set out : List ℕ) {l k : ℕ} → LetterChain w block → l < 256 → k ≡ field w letterHeads l → ((j : ℕ) → inSet out j ≡ false) → Following w block set l out k
+following-start {block = block} set out {l} c h e none = record {
+  upto = block .plain;
   few = omega arith;
   here = e ∙ c .head l h;
   sets = λ j. (⊎-elim (λ t. absurd (subst T (none j) t)) (λ a. a), λ a. inr a);
 }
 
-module _ {w : List ℕ} {base plain : ℕ} {set : List ℕ} {l : ℕ} {out : List ℕ} {k : ℕ} (v : Following w base plain set l out k) (f : Followable w base plain) where
+module _ {w : List ℕ} {block : Block} {set : List ℕ} {l : ℕ} {out : List ℕ} {k : ℕ} (v : Following w block set l out k) (f : Followable w block) where
   -- ---- a turn at arc k
-  module _ (less : k < plain) where
-    on : OnChain (letterAt w base) w letterNexts l (v .upto) k
+  module _ (less : k < block .plain) where
+    on : OnChain (letterAt w (block .base)) w letterNexts l (v .upto) k
     on = on-chain (f .chain) (omega (arith, f .few)) l (v .few) (v .here) less
 
     -- it is arc k that leads there, or one before it
-    split : (j : ℕ) → Leading w base set l (v .upto) j ↔ (Leading w base set l k j ⊎ (T (inSet set (sourceOf w k)) × T (related w base (targetAt w base k) j)))
+    split : (j : ℕ) → Leading w block set l (v .upto) j ↔ (Leading w block set l k j ⊎ (T (inSet set (sourceOf w k)) × T (related w (block .base) (targetAt w (block .base) k) j)))
     split j = (
       λ a. go a (ℕ-discrete (a .at) k) (decLt (a .at) k),
       ⊎-elim (λ a. let b = a .below in record { at = a .at; below = omega (arith, on .below); letter = a .letter; lives = a .lives; leads = a .leads })
           (λ p. record { at = k; below = on .below; letter = on .keyed; lives = p .0; leads = p .1 }),
     )
       where
-        go : (a : Leading w base set l (v .upto) j) → Dec (a .at ≡ k) → Dec (a .at < k) → Leading w base set l k j ⊎ (T (inSet set (sourceOf w k)) × T (related w base (targetAt w base k) j))
-        go a (yes e) d = inr (subst (λ (x : ℕ). T (inSet set (sourceOf w x)) × T (related w base (targetAt w base x) j)) e (a .lives, a .leads))
+        go : (a : Leading w block set l (v .upto) j) → Dec (a .at ≡ k) → Dec (a .at < k) → Leading w block set l k j ⊎ (T (inSet set (sourceOf w k)) × T (related w (block .base) (targetAt w (block .base) k) j))
+        go a (yes e) d = inr (subst (λ (x : ℕ). T (inSet set (sourceOf w x)) × T (related w (block .base) (targetAt w (block .base) x) j)) e (a .lives, a .leads))
         go a (no n) (yes h) = inl (record { at = a .at; below = h; letter = a .letter; lives = a .lives; leads = a .leads })
         go a (no n) (no h) = absurd (on .none (a .at) (omega arith) (a .below) (a .letter))
 
     module _ {k' : ℕ} (next : k' ≡ field w letterNexts k) where
-      onward : k' ≡ last (letterAt w base) l k
+      onward : k' ≡ last (letterAt w (block .base)) l k
       onward = next ∙ on .onward
 
       pub following-less : (k' + 1) % 65536 < (k + 1) % 65536
-      following-less = ⊎-elim (λ d. omega (arith, onward, d, f .few)) (λ d. omega (arith, onward, d .0, f .few)) (last-is (letterAt w base) l k)
+      following-less = ⊎-elim (λ d. omega (arith, onward, d, f .few)) (λ d. omega (arith, onward, d .0, f .few)) (last-is (letterAt w (block .base)) l k)
 
       -- its source is not live
-      pub following-skip : ¬ T (inSet set (sourceOf w k)) → Following w base plain set l out k'
+      pub following-skip : ¬ T (inSet set (sourceOf w k)) → Following w block set l out k'
       following-skip n = record {
         upto = k;
         few = omega arith;
@@ -80,7 +81,7 @@ module _ {w : List ℕ} {base plain : ℕ} {set : List ℕ} {l : ℕ} {out : Lis
       }
 
       -- the row of its target joins
-      pub following-more : (out' : List ℕ) → T (inSet set (sourceOf w k)) → ((j : ℕ) → inSet out' j ≡ (inSet out j || related w base (targetAt w base k) j)) → Following w base plain set l out' k'
+      pub following-more : (out' : List ℕ) → T (inSet set (sourceOf w k)) → ((j : ℕ) → inSet out' j ≡ (inSet out j || related w (block .base) (targetAt w (block .base) k) j)) → Following w block set l out' k'
       following-more out' t union = record {
         upto = k;
         few = omega arith;
@@ -91,18 +92,18 @@ module _ {w : List ℕ} {base plain : ℕ} {set : List ℕ} {l : ℕ} {out : Lis
         );
       }
         where
-          both : (j : ℕ) → T (inSet out' j) ↔ (T (inSet out j) ⊎ T (related w base (targetAt w base k) j))
-          both j = rw (union j) (or-iff (inSet out j) (related w base (targetAt w base k) j))
+          both : (j : ℕ) → T (inSet out' j) ↔ (T (inSet out j) ⊎ T (related w (block .base) (targetAt w (block .base) k) j))
+          both j = rw (union j) (or-iff (inSet out j) (related w (block .base) (targetAt w (block .base) k) j))
 
   -- ---- the end of the chain
-  pub following-end : plain ≤ k → (j : ℕ) → T (inSet out j) ↔ Leading w base set l plain j
+  pub following-end : block .plain ≤ k → (j : ℕ) → T (inSet out j) ↔ Leading w block set l (block .plain) j
   following-end h j = (
     λ t. (v .sets j) .0 (inl t),
-    λ a. ⊎-elim (λ t. t) (λ b. absurd (off-chain (letterAt w base) l (v .few) (v .here) h (b .at) (b .below) (b .letter))) ((v .sets j) .1 a),
+    λ a. ⊎-elim (λ t. t) (λ b. absurd (off-chain (letterAt w (block .base)) l (v .few) (v .here) h (b .at) (b .below) (b .letter))) ((v .sets j) .1 a),
   )
 
 -- THE LAW. The arcs with a letter and a live source are those that the live configurations list.
-pub leading-onward : {w : List ℕ} {base count plain : ℕ} → Sourced w base count plain → (set : List ℕ) (l j : ℕ) → Leading w base set l plain j ↔ Onward (FromList w base count plain) set count l j
+pub leading-onward : {w : List ℕ} {block : Block} → Sourced w block → (set : List ℕ) (l j : ℕ) → Leading w block set l (block .plain) j ↔ Onward (FromList w (block .base) (block .count) (block .plain)) set (block .count) l j
 leading-onward {w} s set l j = (
   λ a. let p = s .of (a .at) (a .below) in
       record { source = sourceOf w (a .at); lives = a .lives; below = p .0; leads = record { at = a .at; low = p .1; high = p .2; letter = a .letter; leads = a .leads } },

@@ -4,6 +4,7 @@ use mathlib.Core.List.{List}
 use Prim.Native.Nat.{ℕ, _≤_, _<_}
 use lib.ListN.{length}
 use Rattle.word_layout.specs.Layout.{blockEnd, sources, letterHeads, letterNexts, letteredEnd}
+use Rattle.word_layout.specs.declared.Block.{Block}
 use Rattle.word_fields.specs.Chains.{Chain}
 use Rattle.word_fields.specs.Fields.{field}
 use Rattle.table_sets.specs.Stepping.{endAt, letterAt, startAt}
@@ -13,26 +14,26 @@ abbrev pub sourceOf : List ℕ → ℕ → ℕ
 sourceOf w k = field w sources k
 
 -- the listed arcs are in the chains of their letters' bytes
-abbrev pub LetterChain : List ℕ → ℕ → ℕ → Type 0
-LetterChain w base plain = Chain (letterAt w base) w letterHeads letterNexts 256 plain
+abbrev pub LetterChain : List ℕ → Block → Type 0
+LetterChain w block = Chain (letterAt w (block .base)) w letterHeads letterNexts 256 (block .plain)
 
 -- listed arc k stands among those of configuration s
-abbrev pub Stands : List ℕ → (base count plain s k : ℕ) → Type 0
-Stands w base count plain s k = (s < count) × (startAt w base s ≤ k) × (k < endAt w base count plain s)
+abbrev pub Stands : List ℕ → Block → (s k : ℕ) → Type 0
+Stands w block s k = (s < block .count) × (startAt w (block .base) s ≤ k) × (k < endAt w (block .base) (block .count) (block .plain) s)
 
--- each of the `plain` listed arcs has as its source the configuration among whose arcs it stands
-pub record Sourced (w : List ℕ) (base count plain : ℕ) : Type 0 where
-  pub of : (k : ℕ) → k < plain → Stands w base count plain (sourceOf w k) k
-  pub own : (s k : ℕ) → Stands w base count plain s k → (k < plain) × (sourceOf w k ≡ s)
+-- each of the listed arcs has as its source the configuration among whose arcs it stands
+pub record Sourced (w : List ℕ) (block : Block) : Type 0 where
+  pub of : (k : ℕ) → k < block .plain → Stands w block (sourceOf w k) k
+  pub own : (s k : ℕ) → Stands w block s k → (k < block .plain) × (sourceOf w k ≡ s)
 
 -- what a step by one letter asks of the words, whatever they stand for
-pub record Followable (w : List ℕ) (base plain : ℕ) : Type 0 where
-  pub few : plain ≤ 2048
-  pub apart : blockEnd base ≤ sources
+pub record Followable (w : List ℕ) (block : Block) : Type 0 where
+  pub few : block .plain ≤ 2048
+  pub apart : blockEnd (block .base) ≤ sources
   pub room : letteredEnd ≤ length w
-  pub small : (k : ℕ) → k < plain → sourceOf w k < 256
-  pub chain : LetterChain w base plain
+  pub small : (k : ℕ) → k < block .plain → sourceOf w k < 256
+  pub chain : LetterChain w block
 
 -- where all plain arcs are listed, each has its source and can be found by its letter
-abbrev pub Lettered : List ℕ → (base count plain : ℕ) → Type 0
-Lettered w base count plain = plain ≤ 2048 → Followable w base plain × Sourced w base count plain
+abbrev pub Lettered : List ℕ → Block → Type 0
+Lettered w block = block .plain ≤ 2048 → Followable w block × Sourced w block

@@ -17,6 +17,7 @@ use word_fields::chains::push;
 use word_fields::fill;
 use word_fields::get16;
 use word_fields::put16;
+use word_layout::Block;
 use word_layout::LETTER_HEADS;
 use word_layout::LETTER_NEXTS;
 use word_layout::SOURCES;
@@ -38,15 +39,15 @@ fn note_source(w: &mut [u64], from: usize, to: usize, c: usize)
 
 // Each listed arc has its source.
 // Cost: one step for each of them.
-fn note_sources(w: &mut [u64], base: usize, count: usize, plain: usize)
-    requires { ⌜ (blockEnd base ≤ sources) × ((letteredEnd ≤ length (now w)) × ((0 < count) × Starts (now w) base count plain)) ⌝ }
+fn note_sources(w: &mut [u64], block: Block)
+    requires { ⌜ (blockEnd (block .base) ≤ sources) × ((letteredEnd ≤ length (now w)) × ((0 < block .count) × Starts (now w) (block .base) (block .count) (block .plain))) ⌝ }
     ensures kept { λ _. ⌜ Kept sources letterNexts (now (w .entry)) (now (w .exit)) ⌝ }
-    ensures sourced { λ _. ⌜ Sourced (now (w .exit)) base count plain ⌝ }
+    ensures sourced { λ _. ⌜ Sourced (now (w .exit)) block ⌝ }
 {
     let mut c: usize = 0;
-    while c < count {
-        let from = first_arc(w, base, c);
-        let to = end_of(w, base, count, plain, c);
+    while c < block.count {
+        let from = first_arc(w, block.base, c);
+        let to = end_of(w, block.base, block.count, block.plain, c);
         note_source(w, from, to, c);
         c += 1;
     }
@@ -54,15 +55,15 @@ fn note_sources(w: &mut [u64], base: usize, count: usize, plain: usize)
 
 // Each listed arc joins the chain of its letter's byte.
 // Cost: one step for each of them.
-fn link_letters(w: &mut [u64], base: usize, plain: usize)
-    requires { ⌜ (blockEnd base ≤ sources) × ((letteredEnd ≤ length (now w)) × (plain ≤ 2048)) ⌝ }
+fn link_letters(w: &mut [u64], block: Block)
+    requires { ⌜ (blockEnd (block .base) ≤ sources) × ((letteredEnd ≤ length (now w)) × (block .plain ≤ 2048)) ⌝ }
     ensures kept { λ _. ⌜ Kept letterNexts letteredEnd (now (w .entry)) (now (w .exit)) ⌝ }
-    ensures chain { λ _. ⌜ LetterChain (now (w .exit)) base plain ⌝ }
+    ensures chain { λ _. ⌜ LetterChain (now (w .exit)) block ⌝ }
 {
     fill(w, LETTER_HEADS, 64);
     let mut k: usize = 0;
-    while k < plain {
-        let arc = listed_arc(w, base, k);
+    while k < block.plain {
+        let arc = listed_arc(w, block.base, k);
         push(w, LETTER_HEADS, LETTER_NEXTS, arc.letter, k);
         k += 1;
     }
@@ -70,30 +71,30 @@ fn link_letters(w: &mut [u64], base: usize, plain: usize)
 
 // The sources and the chains of the listed arcs, where all plain arcs are listed.
 // Cost: two steps for each of them.
-pub fn link(w: &mut [u64], base: usize, count: usize, plain: usize)
-    requires { ⌜ (blockEnd base ≤ sources) × ((letteredEnd ≤ length (now w)) × ((0 < count) × (plain ≤ 2048 → Starts (now w) base count plain))) ⌝ }
+pub fn link(w: &mut [u64], block: Block)
+    requires { ⌜ (blockEnd (block .base) ≤ sources) × ((letteredEnd ≤ length (now w)) × ((0 < block .count) × (block .plain ≤ 2048 → Starts (now w) (block .base) (block .count) (block .plain)))) ⌝ }
     ensures kept { λ _. ⌜ Kept sources letteredEnd (now (w .entry)) (now (w .exit)) ⌝ }
-    ensures linked { λ _. ⌜ Lettered (now (w .exit)) base count plain ⌝ }
+    ensures linked { λ _. ⌜ Lettered (now (w .exit)) block ⌝ }
 {
-    if plain <= 2048 {
-        note_sources(w, base, count, plain);
-        link_letters(w, base, plain);
+    if block.plain <= 2048 {
+        note_sources(w, block);
+        link_letters(w, block);
     }
 }
 
 // The live set after the letter l, of a set that no empty move leaves.
 // Cost: one step for each listed arc with that letter, and a row where its source is live.
-pub fn follow(w: &[u64], base: usize, plain: usize, set: [u64; 4], l: usize) -> [u64; 4]
-    requires { ⌜ (l < 256) × Followable (now w) base plain ⌝ }
-    ensures { λ r. ⌜ ((count letters : ℕ) (arcs : List PlainArc) → Sourced (now (w .entry)) base count plain → Held count letters arcs (FromList (now (w .entry)) base count plain) → εClosedSet count arcs set → l < letters
-        → (view count r ≡ byLetter count arcs (view count set) l) × εClosedSet count arcs r) ⌝ }
+pub fn follow(w: &[u64], block: Block, set: [u64; 4], l: usize) -> [u64; 4]
+    requires { ⌜ (l < 256) × Followable (now w) block ⌝ }
+    ensures { λ r. ⌜ ((letters : ℕ) (arcs : List PlainArc) → Sourced (now (w .entry)) block → Held (block .count) letters arcs (FromList (now (w .entry)) (block .base) (block .count) (block .plain)) → εClosedSet (block .count) arcs set → l < letters
+        → (view (block .count) r ≡ byLetter (block .count) arcs (view (block .count) set) l) × εClosedSet (block .count) arcs r) ⌝ }
 {
     let mut out = word_sets::empty();
     let mut k = get16(w, LETTER_HEADS, l);
-    while k < plain {
+    while k < block.plain {
         if word_sets::has(set, get16(w, SOURCES, k)) {
-            let arc = listed_arc(w, base, k);
-            let more = word_sets::union(out, word_rows::load(w, base, arc.target));
+            let arc = listed_arc(w, block.base, k);
+            let more = word_sets::union(out, word_rows::load(w, block.base, arc.target));
             out = more;
         }
         k = get16(w, LETTER_NEXTS, k);

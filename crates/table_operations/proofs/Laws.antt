@@ -3,8 +3,8 @@
 pub use Rattle.table_operations.proofs.PackedWord.{Small}
 -- what the packed definitions stand for: they are the images of the definitions of crate automata
 pub use Rattle.table_operations.proofs.PackedMeaning.{Good, Packs, hops-packed, pack-inj, packHop, same-packed, state-of}
--- the loop over the operations of one arc, at a place of the whole file
-pub use Rattle.table_operations.proofs.OperationLoop.{Performing, next-ok, performing-end, performing-failed, performing-more, performing-start}
+-- one arc at a place of the whole file, and the loop over its operations
+pub use Rattle.table_operations.proofs.OperationLoop.{Performing, hop-at, next-ok, performing-end, performing-failed, performing-more, performing-start}
 -- the arcs of a file at their places, one after the other, and the list of these places in the words
 pub use Rattle.table_operations.proofs.ArcPlaces.{entry-at}
 -- the chains of arcs by from-state

@@ -1,4 +1,4 @@
--- OperationLoop: the loop over the operations of one arc, at a place of the whole file. What is left gives the whole.
+-- OperationLoop: one arc at a place of the whole file, and the loop over its operations: what is left gives the whole.
 use mathlib.Core.Path.{_∙_, _≡_, ap, subst}
 use Prim.Native.Nat.{_%_, _*_, _+_, _-_, _<_, _^_, _≤_, ℕ}
 use lib.ListN.{drop, getD}
@@ -6,14 +6,21 @@ use lib.Seq.{drop-drop, getD-drop}
 use mathlib.Core.List.{List}
 use native.Mathlib.Nat.{add-zero}
 use native.Mathlib.Omega.{arith}
-use Rattle.table_operations.specs.Packed.{Fitting, actPacked, andThen, performPacked}
+use Rattle.table_operations.specs.Packed.{Fitting, actPacked, andThen, hop, hopWith, performPacked}
 use Rattle.table_operations.specs.declared.Outcome.{Outcome}
 use Rattle.table_operations.specs.declared.Outcome.the-variants.{Failed, Leaves}
+use Rattle.format.specs.Decoding.{letterOf}
 use Rattle.format.specs.Placed.{OkOps}
 use Rattle.file_fields.proofs.Laws.{down}
 
 pub first-at : (s : List ℕ) (at : ℕ) → getD (drop at s) 0 0 ≡ getD s at 0
 first-at s at = getD-drop at s 0 0 ∙ ap (λ (k : ℕ). getD s k 0) (add-zero at)
+
+-- the arc at a place of the file, performed on `own`
+pub hop-at : (file : List ℕ) (at own : ℕ)
+    → hop (drop at file) own ≡ hopWith (performPacked (getD file (at + 3) 0) (drop (at + 4) file) (own % 2 ^ 32)) (letterOf (getD file (at + 1) 0)) (getD file (at + 2) 0)
+unfolding hop
+hop-at file at own = rw (getD-drop at file 1 0, getD-drop at file 2 0, getD-drop at file 3 0, drop-drop 4 at file)
 
 -- k of the p operations of the arc at a place have been performed on the configuration `own`, and left `regs`
 pub record Performing (file : List ℕ) (at p own k regs : ℕ) : Type 0 where

@@ -10,10 +10,11 @@ use Rattle.file_fields.specs.declared.Counts.{Counts}
 use Rattle.word_fields.specs.Chains.{Chain}
 use Rattle.word_fields.specs.Fields.{field}
 
--- the arcs of a file with the counts c stand whole in it, and so near its front that a place fits 16 bits
+-- the arcs of a file with the counts c stand whole in it, behind no more letters and states than there may be, so that a place fits 16 bits
 pub record Walkable (c : Counts) (file : List ℕ) : Type 0 where
+  pub letters : c .letters ≤ 64
+  pub states : c .states ≤ 256
   pub lies : Lies (c .registers) (c .arcs) (firstArc c) file
-  pub near : firstArc c ≤ 332
 
 -- an arc stands whole at a place: its operations have registers below 8 and symbols below 16
 pub record ArcAt (file : List ℕ) (at : ℕ) : Type 0 where
@@ -30,14 +31,14 @@ unfoldable pub falling : (ℕ → ℕ) → ℕ → List ℕ
 falling f zero = []
 falling f (suc n) = f n ∷ falling f n
 
--- the place of entry j
+-- the place that the words have for entry j
 abbrev pub placeOf : List ℕ → ℕ → ℕ
 placeOf w j = field w offsets j
 
--- the places of the arcs of a file with the counts c
+-- the words have the places of the arcs of a file with the counts c, that of the first arc last
 abbrev pub Indexed : Counts → List ℕ → List ℕ → Type 0
 Indexed c file w = places (c .arcs) (firstArc c) file ≡ falling (placeOf w) (c .arcs)
 
--- and the chains by from-state
+-- the words have the chains of these arcs by from-state
 abbrev pub Linked : Counts → List ℕ → List ℕ → Type 0
 Linked c file w = Chain (λ j. getD file (placeOf w j) 0) w arcHeads arcNexts 256 (c .arcs)

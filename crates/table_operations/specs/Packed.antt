@@ -7,7 +7,6 @@ use mathlib.Core.Bool.{cond}
 use mathlib.Core.List.{List, [], _∷_, map}
 use mathlib.Core.Option.{Option, none, some}
 use Rattle.automata.specs.Automaton.{Configuration}
-use Rattle.automata.specs.Exploration.{number}
 use Rattle.automata.specs.Lists.{prepend}
 use Rattle.table_operations.specs.declared.Outcome.{Outcome}
 use Rattle.table_operations.specs.declared.Outcome.the-variants.{Failed, Leaves}
@@ -20,24 +19,29 @@ unfoldable pub packContents : List ℕ → ℕ
 packContents [] = 0
 packContents (x ∷ l) = x + 16 * packContents l
 
+-- a configuration as one number: the contents in the low 32 bits, and the state above them
 abbrev pub pack : Configuration → ℕ
 pack c = packContents (c .contents) + c .state * 2 ^ 32
 
--- register q of the contents w, read and written
+-- what register q of the contents w holds
 abbrev pub digit : ℕ → ℕ → ℕ
 digit w q = w / 2 ^ (4 * q) % 16
 
+-- the contents w once v is written to register q
 abbrev pub digitPut : ℕ → ℕ → ℕ → ℕ
 digitPut w q v = w - digit w q * 2 ^ (4 * q) + v * 2 ^ (4 * q)
 
--- ---- operations: one of the two bytes x and y, and the p at the front of l
+-- ---- operations
+-- what the operation of the two bytes x and y leaves of the contents w: a read fails unless the register holds its symbol
 unfoldable pub actPacked : ℕ → ℕ → ℕ → Outcome
 actPacked x y w = cond (eqb (x / 16) 0) (cond (eqb (digit w (x % 16)) y) (Leaves w) Failed) (Leaves (digitPut w (x % 16) y))
 
+-- where something is left, f goes on with it
 abbrev pub andThen : Outcome → (ℕ → Outcome) → Outcome
 andThen Failed f = Failed
 andThen (Leaves v) f = f v
 
+-- what the p operations at the front of l leave of the contents w, one after the other
 unfoldable pub performPacked : ℕ → List ℕ → ℕ → Outcome
 unfolding actPacked
 performPacked zero l w = Leaves w
@@ -54,6 +58,7 @@ pub record Hop : Type 0 where
   pub letter : Option ℕ
   pub to : ℕ
 
+-- the arc with this letter to the state `target`, where its operations left something
 abbrev pub hopWith : Outcome → Option ℕ → ℕ → Option Hop
 hopWith Failed letter target = none
 hopWith (Leaves v) letter target = some (record { letter = letter; to = v + target * 2 ^ 32 })
@@ -77,5 +82,6 @@ hops (suc m) l w = prepend (hopFrom l w) (hops m (drop (arcSize l) l) w)
 abbrev pub hopsIn : Counts → List ℕ → ℕ → List Hop
 hopsIn c file w = hops (c .arcs) (drop (firstArc c) file) w
 
+-- the configurations that passing arcs lead to
 abbrev pub tos : List Hop → List ℕ
 tos hs = map (λ h. h .to) hs

@@ -6,6 +6,7 @@ ghost use Rattle.table_operations.specs.Arcs.{Walkable, Indexed, Linked}
 ghost use Rattle.word_fields.specs.Frame.{Kept};
 use format::Counts;
 use format::fields::byte;
+use format::fields::first_arc;
 use word_fields::chains::push;
 use word_fields::fill;
 use word_fields::get16;
@@ -21,7 +22,7 @@ pub fn index_arcs(file: &[u8], counts: Counts, w: &mut [u64])
     ensures kept { λ _. ⌜ Kept offsets arcNexts (now (w .entry)) (now (w .exit)) ⌝ }
     ensures indexed { λ _. ⌜ Indexed counts (now (file .entry)) (now (w .exit)) ⌝ }
 {
-    let mut at = 12 + counts.letters + counts.states;
+    let mut at = first_arc(counts);
     let mut i = counts.arcs;
     while 0 < i {
         i -= 1;

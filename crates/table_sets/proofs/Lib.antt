@@ -1,4 +1,5 @@
 pub mod LetterSets
 pub mod BlockFrame
 pub mod StepLaws
+pub mod Telling
 pub mod Laws

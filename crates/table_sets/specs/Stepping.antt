@@ -1,7 +1,7 @@
 -- Stepping: what the words of a block stand for once its rows are closed, and the live sets of all letters that a step leaves.
 -- Where a block has its rows, its plain arcs and their starts is said in crate word_layout, specs/Layout.antt.
 use mathlib.Core.Path.{_≡_}
-use mathlib.Core.Logic.{_⊎_}
+use mathlib.Core.Logic.{_↔_, _⊎_}
 use mathlib.Core.Bool.{cond}
 use mathlib.Core.List.{List, [], _∷_, List·Memᴰ}
 use mathlib.Core.Option.{some}
@@ -11,6 +11,7 @@ use lib.ListN.{length}
 use Rattle.automata.specs.Automaton.{Run}
 use Rattle.automata.specs.Live.{Moves, PlainArc}
 use Rattle.word_layout.specs.Layout.{arcsAt, blockEnd, startsAt}
+use Rattle.word_layout.specs.declared.Block.{Block}
 use Rattle.word_fields.specs.Fields.{field}
 use Rattle.word_sets.specs.Sets.{bit}
 use Rattle.word_rows.specs.Rows.{related, row}
@@ -73,3 +74,17 @@ pub record Starts (w : List ℕ) (base count plain : ℕ) : Type 0 where
   pub zero : 0 < count → startAt w base 0 ≡ 0
   pub each : (c : ℕ) → c < count → startAt w base c ≤ plain
   pub rises : (c : ℕ) → c < count → startAt w base c ≤ endAt w base count plain c
+
+-- ---- a block whose rows are closed, by what it stands for. Crates above the table take `Tells` whole: what they need of it is in
+-- proofs/Laws.antt, and what a step makes of it in the step's contract
+-- the arcs of a block are listed by their sources
+abbrev pub BySource : List ℕ → Block → Type 0
+BySource w block = Starts w (block .base) (block .count) (block .plain)
+
+-- the block tells these plain arcs of its configurations, of which configuration 0 is one: row i has what runs of empty moves lead to from
+-- i, and the list tells where letters lead
+pub record Tells (letters : ℕ) (arcs : List PlainArc) (w : List ℕ) (block : Block) : Type 0 where
+  pub some : 0 < block .count
+  pub rows : (i j : ℕ) → i < block .count → T (related w (block .base) i j) ↔ Run (Moves arcs) i [] j
+  pub listed : BySource w block
+  pub held : Held (block .count) letters arcs (FromList w (block .base) (block .count) (block .plain))

@@ -1,19 +1,14 @@
 -- AnswerLaws: what unfolding answers in each case.
-use mathlib.Core.Path.{_∙_, _≡_, ap, sym}
+use mathlib.Core.Path.{_≡_, sym}
 use mathlib.Core.List.{List}
 use Prim.Native.Nat.{_<_, _≤_, ℕ}
-use native.Mathlib.Omega.{arith}
 use borrow.Author.Tests.{le-ltb, lt-ltb}
 use lib.ListN.{length}
 use Rattle.automata.specs.Automaton.{Automaton}
-use Rattle.automata.specs.Unfolding.{configurations, plainArcs, unfolded}
+use Rattle.automata.specs.Unfolding.{plainArcs, unfolded}
 use Rattle.file_fields.specs.declared.Counts.{Counts}
-use Rattle.file_fields.specs.declared.Reading.the-variants.{Valid}
 use Rattle.format.specs.Decoding.{automatonOf}
 use Rattle.format.specs.Encoding.{bytesOf}
-use Rattle.file_fields.specs.Parts.{numberOf}
-use Rattle.format.specs.Reading.{readingOf}
-use Rattle.format.specs.Refusals.{faultOf}
 use Rattle.word_layout.specs.declared.Block.{Block}
 use Rattle.table.specs.Opening.{openedOf}
 use Rattle.table.specs.declared.Opened.the-variants.{Open, Refused as Closed}
@@ -44,8 +39,3 @@ module _ (file : List ℕ) (words space : ℕ) where
   pub answer-open : {c : Counts} {block : Block} → openedOf file words ≡ Open c block → resultOf 256 2048 (automatonOf file) space ≡ unfoldingOf file words space
   unfolding unfoldingOf resultOf
   answer-open e = sym (opened-passed file words Refused (resultRefusals 256 2048 (automatonOf file) space) (Bytes (length (bytesOf (unfolded (automatonOf file) 256)))) e)
-
-  -- and of a valid file with at most 256 configurations
-  pub answer-result : {c : Counts} → 8192 ≤ words → Valid c ≡ readingOf file → length (configurations (automatonOf file) 256) ≤ 256 → resultOf 256 2048 (automatonOf file) space ≡ unfoldingOf file words space
-  unfolding unfoldingOf resultOf
-  answer-result h e k = rw (le-ltb words 8192 h, le-ltb 0 (faultOf file) (omega (arith, ap numberOf e)), le-ltb 256 (length (configurations (automatonOf file) 256)) k)

@@ -1,12 +1,9 @@
 -- CountedLists: lists made of the numbers from one on, as loops meet them.
-use mathlib.Core.Path.{_∙_, _≡_, ap, ap₂, refl, sym}
+use mathlib.Core.Path.{_∙_, _≡_, ap, refl, sym}
 use mathlib.Core.Bool.{Bool}
 use mathlib.Core.List.{List, [], _++_, _∷_, flatMap, map}
 use Prim.Native.Nat.{_+_, _-_, _<_, _≤_, suc, zero, ℕ}
-use native.Mathlib.Nat.{add-zero}
 use native.Mathlib.Numerals.{add-one}
-use native.Mathlib.Omega.{arith}
-use lib.ListN.{length}
 use Rattle.automata.specs.Lists.{countFrom}
 use Rattle.automata.specs.Live.{table}
 use Rattle.file_fields.proofs.Laws.{down, none-left}

@@ -21,10 +21,10 @@ use Rattle.file_laws.proofs.Laws.{Decide, NoneHolds, Outcome, at-least, fault-d
 use Rattle.file_writing.specs.declared.Written.{Written}
 use Rattle.file_writing.specs.declared.Written.the-variants.{Bytes, Refused}
 use Rattle.file_writing.specs.Answers.{outputOf, told}
+use Rattle.file_writing.proofs.Laws.{refusal-sizeless}
 use Rattle.unfold.specs.Promised.{Answered, Promised, Unfolds, conditions}
 use Rattle.unfold.specs.Unfolding.{refusals, unfoldingOf}
 use Rattle.unfold.proofs.UnfoldedTwice.{same-many, same-plain, unfolded-again}
-use Rattle.unfold.proofs.AnswerLaws.{answer-result, result-bytes}
 use Rattle.unfold.proofs.UnfoldedFits.{unfolded-fits}
 
 -- ---- the bytes written
@@ -41,13 +41,18 @@ module _ (file : List ℕ) (c : Counts) (valid : readingOf file ≡ Valid c) (fe
   same-bytes : bytesOf (unfolded (automatonOf result) 256) ≡ result
   same-bytes = ap (λ (y : Automaton). bytesOf (unfolded y 256)) (back .1) ∙ ap bytesOf (unfolded-again x 256 few)
 
-  answered-again : (words space : ℕ) → 8192 ≤ words → length result ≤ space → unfoldingOf result words space ≡ Bytes (length result)
+  answered-again : (words space : ℕ) → 8192 ≤ words → length result ≤ space → Answered result words space
   answered-again words space h k =
-      let y = automatonOf result in
       let m = ap (λ (z : Automaton). length (configurations z 256)) (back .1) ∙ same-many x 256 few in
       let n = ap (λ (z : Automaton). length (plainArcs z 256)) (back .1) ∙ ap length (same-plain x 256 few) in
       let s = ap length same-bytes in
-      sym (ap Bytes (sym s) ∙ result-bytes 256 2048 y space (omega arith) (omega arith) ∙ answer-result result words space h (sym (back .0)) (omega arith))
+      record {
+        enough = h;
+        valid = ap numberOf (back .0);
+        few = λ q. omega (arith, reaching-more (automatonOf result) 256 .1 q);
+        few-arcs = omega arith;
+        room = omega arith;
+      }
 
   unfolds : Unfolds file result
   unfolding unfolded
@@ -57,7 +62,8 @@ module _ (file : List ℕ) (c : Counts) (valid : readingOf file ≡ Valid c) (fe
     one-register = ap (λ (y : Automaton). y .registers) (back .1);
     one-symbol = ap (λ (y : Automaton). y .symbols) (back .1);
     same-words = λ word. rw (back .1) (unfolding-language x 256 few word);
-    again = λ words space h k. (answered-again words space h k, same-bytes);
+    again = answered-again;
+    same-bytes = same-bytes;
   }
 
 -- ---- the whole answer
@@ -105,6 +111,7 @@ module _ (file : List ℕ) (words : ℕ) (old : List ℕ) where
     written = λ z. absurd (omega arith);
     behind = λ z. absurd (omega arith);
     untouched = λ _. refl;
+    sizeless = λ _. refusal-sizeless n b;
     none = (λ z. absurd (omega arith), λ a. absurd (first-some cs n b pos f (none-of a)));
     refuses = first-exactly cs f;
   }
@@ -115,6 +122,7 @@ module _ (file : List ℕ) (words : ℕ) (old : List ℕ) where
     written = λ _. rw (take-at written (drop (length written) old) (length written) refl) (unfolds file (v .0) (v .1) few (a .few-arcs));
     behind = λ _. drop-at written (drop (length written) old) (length written) refl;
     untouched = λ q. absurd (q refl);
+    sizeless = λ q. absurd (q refl);
     none = (λ _. a, λ _. refl);
     refuses = first-exactly cs (none-first cs (none-of a));
   }

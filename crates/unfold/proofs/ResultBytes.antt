@@ -16,7 +16,7 @@ use Rattle.word_sets.proofs.Laws.{length-view}
 use Rattle.table.specs.Face.{plainsOfMany}
 use Rattle.table.specs.Opening.{Holds}
 use Rattle.table.proofs.Laws.{holds-count, holds-few, holds-plain, holds-plains, holds-valid, some-configuration}
-use Rattle.unfold.specs.Unfolding.{plainCounts}
+use Rattle.unfold.proofs.UnfoldedFits.{plainCounts}
 use Rattle.unfold.proofs.UnfoldedBytes.{plain-length, unfolded-length, unfolded-parts}
 
 module _ {file : List ℕ} {c : Counts} {w : List ℕ} {block : Block} (h : Holds file c w block) where

@@ -11,8 +11,7 @@ use Rattle.format.specs.Encoding.{arcBytes, arcsBytes, bytesOf, flagByte, heade
 use Rattle.file_fields.specs.declared.Counts.{Counts}
 use Rattle.file_laws.proofs.Laws.{bytes-length}
 use Rattle.file_writing.proofs.Laws.{bytes-from}
-use Rattle.unfold.specs.Unfolding.{plainCounts}
-use Rattle.unfold.proofs.UnfoldedFits.{unfolded-sizes}
+use Rattle.unfold.proofs.UnfoldedFits.{plainCounts, unfolded-sizes}
 
 -- each plain arc takes six
 pub plain-length : (l : List PlainArc) → length (arcsBytes (map asArc l)) ≡ 6 * length l

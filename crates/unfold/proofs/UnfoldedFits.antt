@@ -1,12 +1,10 @@
 -- UnfoldedFits: the unfolded automaton is within the limits of a file, where the configurations and the plain arcs are few enough.
-use mathlib.Core.Path.{_∙_, _≡_, refl, subst}
-use mathlib.Core.List.{List, List·Memᴰ, Memᴰ·of-map, map}
-use mathlib.Core.Option.{some}
-use Prim.Native.Nat.{_+_, _<_, _≤_, suc, ℕ}
+use mathlib.Core.Path.{_≡_, refl, subst}
+use mathlib.Core.List.{List·Memᴰ, Memᴰ·of-map, map}
+use Prim.Native.Nat.{_≤_, ℕ}
 use native.Mathlib.Omega.{arith}
 use lib.ListN.{length, length-map}
-use Rattle.automata.specs.Automaton.{Automaton, Configuration, KeepsZero, WellFormed, letters}
-use Rattle.automata.specs.Lists.{Each}
+use Rattle.automata.specs.Automaton.{Automaton, Configuration, KeepsZero, letters}
 use Rattle.automata.specs.Live.{PlainArc, in?}
 use Rattle.automata.specs.Unfolding.{asArc, configurations, finalSet, plainArcs, unfolded}
 use Rattle.automata.proofs.Laws.{mem-each}
@@ -14,10 +12,13 @@ use Rattle.format.specs.Encoding.{sizes}
 use Rattle.format.specs.Limits.{Fits, Ranges}
 use Rattle.file_fields.specs.declared.Counts.{Counts}
 use Rattle.file_laws.proofs.Laws.{ArcFits, fits-by}
-use Rattle.table.proofs.Laws.{PlainFits, plain-fit, some-configuration}
-use Rattle.unfold.specs.Unfolding.{plainCounts}
+use Rattle.table.proofs.Laws.{plain-fit, some-configuration}
 
--- its counts
+-- the counts of an automaton whose one register nothing writes
+abbrev pub plainCounts : (letters states arcs : ℕ) → Counts
+plainCounts letters states arcs = record { letters = letters; states = states; registers = 1; symbols = 1; arcs = arcs }
+
+-- its counts are such
 pub unfolded-sizes : (x : Automaton) (L : ℕ) → sizes (unfolded x L) ≡ plainCounts (letters x) (length (configurations x L)) (length (plainArcs x L))
 unfolding unfolded finalSet
 unfolded-sizes x L =

@@ -1,5 +1,6 @@
 -- Promised: what is promised of unfolding (demand 2, and the exact condition of each refusal). Words and languages are those of runs; the
--- unfolded automaton and its plain arcs (22, 25) are document 01's, over numbered configurations.
+-- unfolded automaton and its plain arcs (22, 25) are document 01's, over numbered configurations. Nothing here is the contract's but
+-- `Told`.
 use mathlib.Core.Path.{_≡_}
 use mathlib.Core.Logic.{_↔_, _≢_}
 use mathlib.Core.List.{List, [], _∷_}
@@ -13,8 +14,6 @@ use Rattle.format.specs.Decoding.{automatonOf}
 use Rattle.format.specs.Encoding.{bytesOf}
 use Rattle.format.specs.Refusals.{FirstHolds, faultOf}
 use Rattle.file_writing.specs.Answers.{Told}
-use Rattle.file_writing.specs.declared.Written.the-variants.{Bytes}
-use Rattle.unfold.specs.Unfolding.{unfoldingOf}
 
 -- document 01's refusals in their order: a condition, the number, and the automaton at fault
 abbrev pub conditions : (file : List ℕ) (words space : ℕ) → List (Type 0 × ℕ × ℕ)
@@ -44,8 +43,10 @@ pub record Unfolds (file result : List ℕ) : Type 0 where
   pub one-symbol : automatonOf result .symbols ≡ 1
   -- it accepts exactly the words, of every length, that the automaton handed in accepts: by runs on both sides
   pub same-words : (word : List ℕ) → Language (automatonOf result) word ↔ Language (automatonOf file) word
-  -- unfolding it again answers its length and writes the same bytes
-  pub again : (words space : ℕ) → 8192 ≤ words → length result ≤ space → (unfoldingOf result words space ≡ Bytes (length result)) × (bytesOf (unfolded (automatonOf result) 256) ≡ result)
+  -- with working words enough, nothing is refused of the file written where there is room for as many bytes, and unfolding it gives the
+  -- same bytes
+  pub again : (words space : ℕ) → 8192 ≤ words → length result ≤ space → Answered result words space
+  pub same-bytes : bytesOf (unfolded (automatonOf result) 256) ≡ result
 
 -- what is promised of an answer, told in document 01's terms, and of the output, which was `old` and is `out`
 pub record Promised (file : List ℕ) (words : ℕ) (old out : List ℕ) (t : Told) : Type 0 where
@@ -54,8 +55,9 @@ pub record Promised (file : List ℕ) (words : ℕ) (old out : List ℕ) (t : To
   pub size : t .number ≡ 0 → t .size ≡ length (bytesOf (unfolded (automatonOf file) 256))
   pub written : t .number ≡ 0 → Unfolds file (take (t .size) out)
   pub behind : t .number ≡ 0 → drop (t .size) out ≡ drop (t .size) old
-  -- a refusal leaves the output as it was lent
+  -- a refusal leaves the output as it was lent, and tells no length
   pub untouched : t .number ≢ 0 → out ≡ old
+  pub sizeless : t .number ≢ 0 → t .size ≡ 0
   -- the number is 0 just where nothing is to be refused
   pub none : (t .number ≡ 0) ↔ Answered file words (length old)
   -- each refusal has its number and its automaton at fault just where its condition is the first that holds; where none holds, both are 0

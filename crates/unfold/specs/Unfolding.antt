@@ -8,7 +8,6 @@ use lib.Dec.{ltb}
 use lib.ListN.{length}
 use Rattle.automata.specs.Automaton.{Automaton}
 use Rattle.automata.specs.Unfolding.{plainArcs, unfolded}
-use Rattle.file_fields.specs.declared.Counts.{Counts}
 use Rattle.format.specs.Decoding.{automatonOf}
 use Rattle.format.specs.Encoding.{bytesOf}
 use Rattle.format.specs.Refusals.{unlessRefused}
@@ -39,7 +38,3 @@ resultOf L P x space = unlessRefused Refused (resultRefusals L P x space) (Bytes
 unfoldable pub unfoldingOf : (file : List ℕ) (words space : ℕ) → Written
 unfolding refusals unlessRefused
 unfoldingOf file words space = unlessRefused Refused (refusals 256 2048 file words space) (Bytes (length (bytesOf (unfolded (automatonOf file) 256))))
-
--- the counts of an automaton whose one register nothing writes
-abbrev pub plainCounts : (letters states arcs : ℕ) → Counts
-plainCounts letters states arcs = record { letters = letters; states = states; registers = 1; symbols = 1; arcs = arcs }

@@ -8,7 +8,7 @@ ghost use Rattle.word_sets.specs.Sets.{view};
 ghost use Rattle.file_writing.specs.Placing.{Appended};
 use file_writing::parts::write_byte;
 
-// 01 for a final state, else 00.
+// 01 for a final state, else 00. Cost: constant.
 fn flag_of(is_final: bool) -> u8
     ensures { λ r. ⌜ r ≡ flagByte «is_final» ⌝ }
 {

@@ -14,7 +14,7 @@ use super::flags::write_flags;
 use file_writing::Written;
 use file_writing::front::write_front;
 use format::Counts;
-use table::face::final_configurations;
+use table::finals::final_configurations;
 use word_layout::Block;
 
 // The whole file: header, letters, a flag for each configuration, the plain arcs. Cost: its bytes.
@@ -31,7 +31,7 @@ fn write_file(out: &mut [u8], file: &[u8], c: Counts, w: &[u64], block: Block) -
         arcs: block.plain,
     };
     let flags = write_front(out, counts, c, file);
-    let finals = final_configurations(file, c, w, block);
+    let finals = final_configurations(file, c, w, block.count);
     let arcs = write_flags(out, flags, finals, block.count);
     write_arcs(out, arcs, w, block)
 }

@@ -14,6 +14,7 @@ offsets = 2048
 abbrev pub arcNexts : ℕ
 arcNexts = 2560
 
+-- of those chains the heads, a field for each state
 abbrev pub arcHeads : ℕ
 arcHeads = 3072
 
@@ -21,12 +22,15 @@ arcHeads = 3072
 abbrev pub configs : ℕ
 configs = 3136
 
+-- of those chains the heads
 abbrev pub configHeads : ℕ
 configHeads = 3392
 
+-- and the next fields, one for each configuration
 abbrev pub configNexts : ℕ
 configNexts = 3520
 
+-- behind the building's tables
 abbrev pub mapEnd : ℕ
 mapEnd = 3584
 
@@ -40,20 +44,25 @@ parents = 4096
 abbrev pub pairHeads : ℕ
 pairHeads = 4224
 
+-- of those chains the next fields
 abbrev pub pairNexts : ℕ
 pairNexts = 4352
 
 -- ---- the live sets of all letters that a step leaves, 64 rows: of the first automaton, or the only one, and of the second
+-- of the first, or the only one
 abbrev pub firstSets : ℕ
 firstSets = 4480
 
+-- of the second
 abbrev pub secondSets : ℕ
 secondSets = 4736
 
 -- ---- the blocks: of the first automaton, or the only one, and of the second
+-- of the first, or the only one
 abbrev pub firstBlock : ℕ
 firstBlock = 4992
 
+-- of the second, behind the first
 abbrev pub secondBlock : ℕ
 secondBlock = 6592
 
@@ -62,9 +71,11 @@ secondBlock = 6592
 abbrev pub arcsAt : ℕ → ℕ
 arcsAt base = base + 1024
 
+-- where its fields begin that say where the plain arcs of each source start
 abbrev pub startsAt : ℕ → ℕ
 startsAt base = base + 1536
 
+-- behind the block
 abbrev pub blockEnd : ℕ → ℕ
 blockEnd base = base + 1600
 
@@ -82,11 +93,14 @@ pub record Placed (w : List ℕ) (base : ℕ) : Type 0 where
 abbrev pub sources : ℕ
 sources = secondBlock
 
+-- of the chains by letter the next fields
 abbrev pub letterNexts : ℕ
 letterNexts = sources + 512
 
+-- and the heads, a field for each byte that a letter can have
 abbrev pub letterHeads : ℕ
 letterHeads = letterNexts + 512
 
+-- behind these
 abbrev pub letteredEnd : ℕ
 letteredEnd = letterHeads + 64

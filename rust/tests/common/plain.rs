@@ -59,13 +59,8 @@ fn fault<T>(number: u8, place: usize) -> Result<T, Fault> {
     Err(Fault { number, place })
 }
 
-/// The automaton in a file, or the number of its first fault.
-pub fn read(file: &[u8]) -> Result<Automaton, u8> {
-    read_placed(file).map_err(|f| f.number)
-}
-
 /// The automaton in a file, or its first fault.
-pub fn read_placed(file: &[u8]) -> Result<Automaton, Fault> {
+pub fn read(file: &[u8]) -> Result<Automaton, Fault> {
     let mut at = 0;
     let mut want = |n: usize| -> Result<(usize, &[u8]), Fault> {
         let begin = at;
@@ -303,7 +298,10 @@ fn is_accepted(x: &Automaton, set: &BTreeSet<Configuration>) -> bool {
 }
 
 fn read_one(file: &[u8], automaton: u8) -> Result<Automaton, Refusal> {
-    read(file).map_err(|number| Refusal { number, automaton })
+    read(file).map_err(|fault| Refusal {
+        number: fault.number,
+        automaton,
+    })
 }
 
 /// Whether the word is accepted, and how many configurations are live after it.

@@ -1,4 +1,5 @@
 -- `compare_prune::prune` meets its contract. The loop's invariant: the configurations before c have been pruned (Pruning).
+use mathlib.Core.Path.{refl}
 use mathlib.Core.Logic.{inl, inr, ⊎-elim}
 use Prim.Native.Nat.{_-_, _≤_}
 use native.Mathlib.Omega.{arith}
@@ -6,22 +7,22 @@ use lib.ListN.{length}
 use Rattle.word_fields.proofs.Laws.{but-same}
 use Rattle.word_layout.specs.Layout.{blockEnd}
 use Rattle.table_sets.proofs.Laws.{end-below}
-use Rattle.compare_prune.proofs.PruneAll.{Pruning, from-was, pruned-told, pruned-starts, pruning-kept, pruning-more, pruning-start, to-was}
+use Rattle.compare_prune.proofs.PruneAll.{Pruning, from-was, pruned-tells, pruning-kept, pruning-more, pruning-start, to-was}
 use Rattle.compare_prune.proofs.prune.Statement.{statement}
 use Rattle.compare_prune.proofs.prune.Tie as tie
 
 abbrev Inv-loop : tie.InvT-loop
-Inv-loop w₀ base acc count plain kept₀ c₀ w kept c = Pruning w₀ base acc count plain c w kept
+Inv-loop w₀ acc base count plain kept₀ c₀ w kept c = Pruning w₀ base acc count plain c w kept
 
 abbrev μ-loop : tie.MeasureT-loop
-μ-loop w₀ base acc count plain kept₀ c₀ w kept c = count - c
+μ-loop w₀ acc base count plain kept₀ c₀ w kept c = count - c
 
 mul-if1 : tie.Need-mul-if1 Inv-loop μ-loop
 mul-if1 c = omega (arith, c .before .pre .1 .1 .few)
 
 -- all stay
 returns : tie.Need-returns Inv-loop μ-loop
-returns c = let p = c .before .before .pre in (but-same _ _ _ _ _, ((p .1 .1, omega arith), λ letters arcs few runs held. held))
+returns c = (but-same _ _ _ _ _, ((refl, refl), λ letters arcs few t. t))
 
 loop-holds : tie.Need-loop-holds Inv-loop μ-loop
 loop-holds c = pruning-start _ _ _ _ _
@@ -35,7 +36,7 @@ ahead-requires c κs =
     (omega (arith, i .loop-test .taken, p .1 .1 .few), (record { block = omega (arith, p .1 .0, n); rows = omega (arith, p .0, p .1 .0, n); apart = inl (p .0) }, l .loop .inv .starts))
 
 -- the words are long enough, once `ahead` has written its sets
-long : (c : tie.After-slice-known2 Inv-loop μ-loop) → blockEnd (c .before .before .before .before .before .before .before .before .args .base) ≤ length (c .before .before .ahead .last .0)
+long : (c : tie.After-slice-known2 Inv-loop μ-loop) → blockEnd (c .before .before .before .before .before .before .before .before .args .block .base) ≤ length (c .before .before .ahead .last .0)
 long c =
     let a = c .before .before in
     let l = a .before .before .before in
@@ -105,7 +106,7 @@ returns-2 c =
     let p = c .before .before .before .before .pre in
     let v = c .before .loop .inv in
     let h = c .loop-test .left in
-    (v .frame, ((pruned-starts (p .0) (p .1 .1) h v, v .below), pruned-told (p .0) (p .1 .1) h v))
+    (v .frame, ((refl, refl), pruned-tells (p .0) (p .1 .1) h v))
 
 pub prune-spec : {M : Type 1} → statement M
 prune-spec =

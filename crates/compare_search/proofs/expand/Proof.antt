@@ -2,8 +2,8 @@
 use borrow.Author.Needs.{needs}
 use native.Mathlib.Omega.{arith}
 use Rattle.word_fields.proofs.Laws.{kept-then, kept-wider}
-use Rattle.compare_search.proofs.TableFrames.{holds-kept, room-first, room-second, table-kept}
-use Rattle.compare_search.proofs.ExpandPair.{both-steps, letter-sets, second-starts}
+use Rattle.compare_search.proofs.TableFrames.{holds-kept, ready-kept, room-first, room-second, table-kept}
+use Rattle.compare_search.proofs.ExpandPair.{both-steps, letter-sets}
 use Rattle.compare_search.proofs.expand.Statement.{statement}
 use Rattle.compare_search.proofs.expand.Tie as tie
 
@@ -14,14 +14,14 @@ load-requires-2 : tie.Need-load-requires-2
 load-requires-2 c κs = let s = c .before .before .before .before in omega (arith, s .pre .0 .long, s .pre .1 .1 .few)
 
 step-requires : tie.Need-step-requires
-step-requires c κs = let s = c .before .before .before .before .before .before in (room-first (s .pre .0 .long), s .pre .0 .first)
+step-requires c κs = let s = c .before .before .before .before .before .before in (room-first (s .pre .0), s .pre .0 .listed₁)
 
 step-requires-2 : tie.Need-step-requires-2
 step-requires-2 c κs =
     let p = c .before .before .before in
     let s = p .before .before .before .before .before .before .before in
-    let k = p .step .ensures .0 in
-    (room-second (omega (arith, k .long, s .pre .0 .long)), second-starts k (s .pre .0 .second))
+    let r = ready-kept (kept-wider (omega arith) (omega arith) (p .step .ensures .0)) (s .pre .0) in
+    (room-second r, r .listed₂)
 
 meet-letters-requires : tie.Need-meet-letters-requires
 meet-letters-requires c κs =

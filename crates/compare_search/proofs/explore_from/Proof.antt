@@ -10,13 +10,13 @@ use Rattle.compare_search.proofs.explore_from.Statement.{statement}
 use Rattle.compare_search.proofs.explore_from.Tie as tie
 
 abbrev Inv-loop : tie.InvT-loop
-Inv-loop w₀ a count1 plain1 count2 plain2 n₀ i₀ w n i = Walked a count1 plain1 count2 plain2 w₀ w n i
+Inv-loop w₀ a one two n₀ i₀ w n i = Walked a one two w₀ w n i
 
 abbrev μ-loop : tie.MeasureT-loop
-μ-loop w₀ a count1 plain1 count2 plain2 n₀ i₀ w n i = 512 - i
+μ-loop w₀ a one two n₀ i₀ w n i = 512 - i
 
 loop-holds : tie.Need-loop-holds Inv-loop μ-loop
-loop-holds c = walked-start _ _ _ _ _ _ (c .before .pre .1)
+loop-holds c = walked-start _ _ _ _ (c .before .pre .1)
 
 expand-requires : tie.Need-expand-requires Inv-loop μ-loop
 expand-requires c κs =

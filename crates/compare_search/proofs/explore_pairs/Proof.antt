@@ -41,7 +41,7 @@ returns c =
       (
         e .1 .0,
         λ s t b. let g = both-kept k (z .pre) b in
-            e .1 .1 s t (begin s t) (both-kept m (ready-kept k (z .pre)) g) (holds-start s t g (u .load .ensures) (v .load2 .ensures) (d .add-pair .ensures)),
+            e .1 .1 s t (begin s t) (both-kept m (ready-kept k (z .pre)) g) (holds-start s t g (u .start-set .ensures) (v .start-set2 .ensures) (d .add-pair .ensures)),
       ),
     )
 

@@ -8,12 +8,12 @@ use Rattle.compare_step.proofs.step.Statement.{statement}
 use Rattle.compare_step.proofs.step.Tie as tie
 
 abbrev Inv-loop : tie.InvT-loop
-Inv-loop w₀ base acc count plain set met₀ c₀ w met c = Stepping (FromList w₀ base count plain) w₀ acc set c w met
+Inv-loop w₀ block acc set base count met₀ c₀ w met c = Stepping (FromList w₀ (block .base) (block .count) (block .plain)) w₀ acc set c w met
 
 abbrev μ-loop : tie.MeasureT-loop
-μ-loop w₀ base acc count plain set met₀ c₀ w met c = 256 - c
+μ-loop w₀ block acc set base count met₀ c₀ w met c = 256 - c
 
-room-at : (c : tie.After-first-arc-arg Inv-loop μ-loop) → Room (c .before .before .loop .w) (c .before .before .before .before .before .args .base) (c .before .before .before .before .before .args .acc)
+room-at : (c : tie.After-first-arc-arg Inv-loop μ-loop) → Room (c .before .before .loop .w) (c .before .before .before .before .before .args .block .base) (c .before .before .before .before .before .args .acc)
 room-at c = let l = c .before .before in let r = l .before .before .before .pre .0 in room-kept (block-kept (l .loop .inv .kept) (r .apart)) r
 
 loop-holds : tie.Need-loop-holds Inv-loop μ-loop
@@ -31,7 +31,7 @@ visit-requires c κs =
     let g = e .before .before .before in
     let l = g .before .before in
     let s = l .before .before .before in
-    (omega (arith, e .end-of .ensures, end-kept (block-kept (l .loop .inv .kept) (s .pre .0 .apart)) (s .args .count) (s .args .plain) (l .loop .c) (s .pre .1 .few), end-few (l .loop .c) (s .pre .1)), room-at g)
+    (omega (arith, e .end-of .ensures, end-kept (block-kept (l .loop .inv .kept) (s .pre .0 .apart)) (s .args .block .count) (s .args .block .plain) (l .loop .c) (s .pre .1 .few), end-few (l .loop .c) (s .pre .1)), room-at g)
 
 add-next-live : tie.Need-add-next-live Inv-loop μ-loop
 add-next-live c = let i = c .before .before .before .before .before .before .before .before in omega (arith, i .loop-test .taken)
@@ -51,8 +51,8 @@ loop-again c =
     let l = i .before in
     let b = l .before .before .before in
     let p = b .pre in
-    stepping-more (FromList (b .args .w .now) (b .args .base) (b .args .count) (b .args .plain))
-    {Own = Among (l .loop .w) (b .args .base) (g .first-arc .result) (e .end-of .result)} (v .visit .result) (omega (arith, i .loop-test .taken, p .1 .few)) (l .loop .inv) (v .visit .ensures .0) (v .visit .ensures .1)
+    stepping-more (FromList (b .args .w .now) (b .args .block .base) (b .args .block .count) (b .args .block .plain))
+    {Own = Among (l .loop .w) (b .args .block .base) (g .first-arc .result) (e .end-of .result)} (v .visit .result) (omega (arith, i .loop-test .taken, p .1 .few)) (l .loop .inv) (v .visit .ensures .0) (v .visit .ensures .1)
     (list-kept (block-kept (l .loop .inv .kept) (p .0 .apart)) (l .loop .c) (p .1) (i .loop-test .taken) (g .first-arc .ensures) (e .end-of .ensures))
     (c .next-live2 .ensures)
 
@@ -60,7 +60,7 @@ same-length : tie.Need-same-length Inv-loop μ-loop
 same-length c = c .before .loop .inv .kept .long
 
 returns : tie.Need-returns Inv-loop μ-loop
-returns c = let l = c .before in (l .loop .inv .kept, stepped _ (c .loop-test .left) (l .loop .inv))
+returns c = let l = c .before in (l .loop .inv .kept, λ letters arcs t. stepped _ (c .loop-test .left) (l .loop .inv) letters arcs (t .held))
 
 pub step-spec : {M : Type 1} → statement M
 step-spec =

@@ -5,7 +5,6 @@ use native.Mathlib.Omega.{arith}
 use borrow.Author.Tests.{le-leb, lt-leb}
 use lib.Dec.{leb}
 use lib.ListN.{getD, drop}
-use Rattle.file_fields.specs.declared.Counts.{Counts}
 use Rattle.file_fields.specs.declared.Reading.the-variants.{Valid}
 use Rattle.file_fields.specs.Parts.{fieldTests, operationTests, opsFront, wellOps, firstFault}
 use Rattle.file_fields.proofs.Laws.{each-holds, failed, fault-append, hold-valid, one-fails, ops-all, passed, tail}

@@ -17,11 +17,23 @@ use Rattle.join_union.proofs.UnionBytes.{union-parts, union-counts}
 use Rattle.join_parts.proofs.Laws.{flags-end, valid-lengths}
 use Rattle.join_union.proofs.write_union.Tie as tie
 
--- the parts, and room for them
+-- the parts, and that they are written one behind the other
 abbrev parts : (s : tie.Start) → let x = automatonOf (s .args .first .now) in let y = automatonOf (s .args .second .now) in
     bytesOf (union x y) ≡ (headerBytes (s .args .c) ++ x .alphabet) ++ ((0 ∷ []) ++ (map flagByte (x .finals) ++ (map flagByte (y .finals) ++ arcsBytes (union x y .arcs))))
 parts s = union-parts (automatonOf (s .args .first .now)) (automatonOf (s .args .second .now)) (s .pre .1)
 
+returns : tie.Need-returns
+returns c =
+    let arcs = c .before .before in
+    let right = arcs .before .before .before .before in
+    let left = right .before .before .before .before in
+    let byte = left .before .before .before .before in
+    let front = byte .before .before .before .before in
+    let s = front .before .before .before .before .before in
+    rw (parts s)
+    (written-then (front .write-front .ensures) (written-then (byte .write-byte .ensures) (written-then (left .write-flags .ensures) (written-then (right .write-flags2 .ensures) (arcs .write-union-arcs .ensures)))))
+
+-- there is room for them, and each writer has what it asks for
 room : (s : tie.Start) → let x = automatonOf (s .args .first .now) in let y = automatonOf (s .args .second .now) in
     13 + s .args .a .letters + s .args .a .states + s .args .b .states + length (arcsBytes (union x y .arcs)) ≤ length (s .args .out .now)
 room s =
@@ -67,17 +79,6 @@ write-union-arcs-requires c κs =
       omega (arith, s .pre .2 .ranges .states, ap (λ (c : Counts). c .states) (union-counts (automatonOf (s .args .first .now)) (automatonOf (s .args .second .now))), valid-lengths _ _ (v .first), valid-lengths _ _ (v .second)),
       omega (arith, room s, front-ends _ _ (v .first) (s .args .c) (front .write-front .ensures), appended-ends (byte .write-byte .ensures), flags-end _ _ (v .first) (left .write-flags .ensures), flags-end _ _ (v .second) (right .write-flags2 .ensures)),
     )
-
-returns : tie.Need-returns
-returns c =
-    let arcs = c .before .before in
-    let right = arcs .before .before .before .before in
-    let left = right .before .before .before .before in
-    let byte = left .before .before .before .before in
-    let front = byte .before .before .before .before in
-    let s = front .before .before .before .before .before in
-    rw (parts s)
-    (written-then (front .write-front .ensures) (written-then (byte .write-byte .ensures) (written-then (left .write-flags .ensures) (written-then (right .write-flags2 .ensures) (arcs .write-union-arcs .ensures)))))
 
 pub write-union-spec : {M : Type 1} → statement M
 write-union-spec =

@@ -1,22 +1,16 @@
 -- `table::accepts` meets its contract: where the file is open, its rows are closed and the word is judged (Opening, Accepting).
 use borrow.Author.Needs.{needs}
-use mathlib.Core.Path.{_≡_, _∙_, ap, refl, subst, sym}
+use mathlib.Core.Path.{_∙_, refl, subst, sym}
 use mathlib.Core.List.{[]}
 use mathlib.Core.Logic.{inl}
 use native.Mathlib.Omega.{arith}
 use lib.ListN.{length}
-use Rattle.automata.specs.Automaton.{Automaton}
-use Rattle.format.specs.Decoding.{automatonOf, decoded}
-use Rattle.file_laws.proofs.Laws.{valid-decoded}
-use Rattle.word_layout.specs.Layout.{firstBlock}
-use Rattle.table_configurations.proofs.Laws.{placed-kept}
-use Rattle.table_operations.proofs.Laws.{indexed-kept, linked-kept}
+use Rattle.format.specs.Decoding.{automatonOf}
 use Rattle.table.specs.Membership.{judged, membershipOf}
 use Rattle.table.specs.Opening.{HeldBy, Holds}
 use Rattle.table.specs.declared.Membership.the-variants.{Refused}
-use Rattle.table.specs.declared.Opened.{Opened}
-use Rattle.table.proofs.ReadyLaws.{builds-tables, built-ready, valid-few, valid-walkable}
-use Rattle.table.proofs.Opening.{holds-decoded, opened-passed, opened-refused}
+use Rattle.table.proofs.ReadyLaws.{closed-ready}
+use Rattle.table.proofs.Opening.{opened-passed, opened-refused}
 use Rattle.table.proofs.accepts.Statement.{statement}
 use Rattle.table.proofs.accepts.Tie as tie
 
@@ -43,11 +37,7 @@ judge-word-requires c κs =
     let k = c .before .before .before in
     let h = held (k .before .before .before) in
     let y = k .close-rows .ensures in
-    let v = h .valid in
-    let walk = valid-walkable _ _ v in
-    let place = placed-kept (y .0 .long) (h .placed) in
-    let f = builds-tables _ _ (valid-few _ _ v) walk (h .placed) (holds-decoded h) (y .0) (y .1) .block in
-    (built-ready v place (omega (arith, h .first)) (indexed-kept _ _ walk (λ j l. y .0 .below j (omega (arith, h .placed .above))) (h .indexed)) (linked-kept _ _ walk (λ j l. y .0 .below j (omega (arith, h .placed .above))) (h .linked)) (f .0) (f .1 .0) (f .1 .1), (omega (arith, h .first), omega (arith, h .enough, y .0 .long)))
+    (closed-ready h (y .0) (y .1), (omega (arith, h .first), omega (arith, h .enough, y .0 .long)))
 
 -- the word is judged
 returns-2 : tie.Need-returns-2
@@ -60,8 +50,7 @@ returns-2 c =
     let a = o .before .before .before .before .before .args in
     let e = sym (o .open-file .ensures .1 .0) ∙ v .c .given .1 in (
       j .judge-word .ensures .0 .long ∙ k .close-rows .ensures .0 .long ∙ o .open-file .ensures .0,
-      j .judge-word .ensures .1 ∙ ap (λ (x : Automaton). judged 256 x (a .word .now)) (sym (valid-decoded _ _ (held v .valid)))
-          ∙ sym (opened-passed (a .file .now) (length (a .work .now)) Refused [] (judged 256 (automatonOf (a .file .now)) (a .word .now)) e),
+      j .judge-word .ensures .1 ∙ sym (opened-passed (a .file .now) (length (a .work .now)) Refused [] (judged 256 (automatonOf (a .file .now)) (a .word .now)) e),
     )
 
 pub accepts-spec : {M : Type 1} → statement M

@@ -22,7 +22,7 @@ returns c =
       but-high (omega arith) (omega arith) (omega arith) (n .ensures .0),
       (
         record { more = omega arith; few = omega arith; configured = configured-kept (λ j x y. n .ensures .0 .below j (omega arith)) g },
-        λ all plains s. met-old p (g .few) s (f .ensures) (a .c) (letterOf (a .letter)) (i .if1 .taken) (n .ensures .1 (a .known) all plains s (t .pre .0) (g .few)),
+        λ all plains s. met-old p (g .few) s (f .ensures) (a .c) (letterOf (a .letter)) (i .if1 .taken) (n .ensures .1 (a .count) all plains s (t .pre .0) (g .few)),
       ),
     )
 
@@ -51,7 +51,7 @@ returns-3 c =
         record { more = omega arith; few = omega arith; configured = configured-kept (λ j x y. n .ensures .0 .below j (omega arith)) (e .1 .0) },
         λ all plains s.
             let q = met-none p few s (f .ensures) (i .if1 .left) in
-            rw q (n .ensures .1 (a .known + 1) _ plains (e .1 .1 (a .plain) all plains s q) (omega arith) (omega (arith, k .before .before .if2 .left))),
+            rw q (n .ensures .1 (a .count + 1) _ plains (e .1 .1 (a .plain) all plains s q) (omega arith) (omega (arith, k .before .before .if2 .left))),
       ),
     )
 

@@ -11,13 +11,13 @@ use Rattle.table_letters.proofs.link.Statement.{statement}
 use Rattle.table_letters.proofs.link.Tie as tie
 
 note-sources-requires : tie.Need-note-sources-requires
-note-sources-requires c κs = let t = c .before in let p = t .before .before .pre in (p .0, (p .1 .0, (p .1 .1 .0, p .1 .1 .1 (t .if1 .taken))))
+note-sources-requires c κs = let t = c .before in let p = t .before .before .before .pre in (p .0, (p .1 .0, (p .1 .1 .0, p .1 .1 .1 (t .if1 .taken))))
 
 link-letters-requires : tie.Need-link-letters-requires
 link-letters-requires c κs =
     let n = c .before .before .before in
     let t = n .before .before in
-    let p = t .before .before .pre in
+    let p = t .before .before .before .pre in
     (p .0, (omega (arith, p .1 .0, n .note-sources .ensures .0 .long), t .if1 .taken))
 
 returns : tie.Need-returns
@@ -25,7 +25,7 @@ returns c =
     let l = c .before .before in
     let n = l .before .before .before .before in
     let t = n .before .before in
-    let p = t .before .before .pre in
+    let p = t .before .before .before .pre in
     let starts = p .1 .1 .1 (t .if1 .taken) in
     let k = l .link-letters .ensures .0 in
     let sourced = sourced-kept (starts .few) (block-kept k (inr (omega (arith, p .0)))) (λ i h. field-same _ _ sources i (k .below (sources + i / 4) (omega (arith, starts .less)))) (n .note-sources .ensures .1) in (

@@ -22,7 +22,7 @@ from z = z .before .before .before .before .before
 
 -- what searching answers, of any two sides
 met : (x : tie.After-explore-pairs) (r : Grown) → x .explore-pairs .result ≡ r → let a = start x .args in
-    (s t : Side) → Both (length (a .letters .now)) s t (a .w .now) (a .one .count) (a .one .plain) (a .two .count) (a .two .plain)
+    (s t : Side) → Both (length (a .letters .now)) s t (a .w .now) (a .one .block) (a .two .block)
     → Outcome 512 s t (x .explore-pairs .last .0) (entries samePair (along s t) (length (a .letters .now)) (begin s t) 512) r
 met x r e =
     let a = start x .args in

@@ -1,5 +1,5 @@
 -- What follows the header: at each return the tests before it hold, and the one there fails or all hold.
-use mathlib.Core.Path.{_≡_, ap, _∙_}
+use mathlib.Core.Path.{_≡_, ap, ap₂, _∙_}
 use Prim.Native.Nat.{ℕ, _+_, _-_, _≤_}
 use native.Mathlib.Omega.{arith}
 use borrow.Author.Tests.{le-leb, lt-leb}
@@ -16,22 +16,25 @@ use Rattle.format.proofs.body.read_body.Tie as tie
 ascended : (c : tie.After-is-ascending) → let a = c .before .before .before .before .before .args in c .is-ascending .result ≡ ascending (letterBytes (a .c) (a .file .now))
 ascended c =
     let a = c .before .before .before .before .before .args in
-    let e : 12 + a .c .letters - 12 ≡ a .c .letters = omega arith in
+    let flags = c .before .before .before .flags-at in
+    let e : flags .result - 12 ≡ a .c .letters = omega (arith, flags .ensures) in
     c .is-ascending .ensures ∙ ap (λ n. ascending (take n (drop 12 (a .file .now)))) e
 
 flagged : (c : tie.After-flags-front) → let a = c .before .before .before .before .before .before .before .before .before .before .args in
     c .flags-front .result ≡ flagsFront (flagBytes (a .c) (a .file .now))
 flagged c =
     let a = c .before .before .before .before .before .before .before .before .before .before .args in
-    let e : 12 + a .c .letters + a .c .states - (12 + a .c .letters) ≡ a .c .states = omega arith in
-    c .flags-front .ensures ∙ ap (λ n. flagsFront (take n (drop (12 + a .c .letters) (a .file .now)))) e
+    let flags = c .before .before .before .before .before .before .before .before .flags-at in
+    let arcs = c .before .before .before .first-arc in
+    let e : arcs .result - flags .result ≡ a .c .states = omega (arith, flags .ensures, arcs .ensures) in
+    c .flags-front .ensures ∙ ap₂ (λ m n. flagsFront (take n (drop m (a .file .now)))) (flags .ensures) e
 
 -- all are flags just if as many at the front are as there are
 all-flags : (c : tie.After-flags-front) → let a = c .before .before .before .before .before .before .before .before .before .before .args in
     flags (flagBytes (a .c) (a .file .now)) ≡ leb (a .c .states) (c .flags-front .result)
 all-flags c =
     let a = c .before .before .before .before .before .before .before .before .before .before .args in
-    flags-all (flagBytes (a .c) (a .file .now)) ∙ rw (flags-length (a .c) (a .file .now) (c .before .before .if3 .left), flagged c)
+    flags-all (flagBytes (a .c) (a .file .now)) ∙ rw (flags-length (a .c) (a .file .now) (omega (arith, c .before .before .before .first-arc .ensures)), flagged c)
 
 -- how many letters ascend: no more than there are
 placed : (c : tie.After-ascending-front) → let a = c .before .before .before .before .before .before .before .before .args in
@@ -39,9 +42,10 @@ placed : (c : tie.After-ascending-front) → let a = c .before .before .before .
 placed c =
     let i = c .before .before .before .before .before in
     let a = i .before .before .before .args in
-    let e : 12 + a .c .letters - 12 ≡ a .c .letters = omega arith in
+    let flags = i .before .flags-at in
+    let e : flags .result - 12 ≡ a .c .letters = omega (arith, flags .ensures) in
     let known = rw e at (c .ascending-front .ensures) in
-    let n = letters-length (a .c) (a .file .now) (i .if1 .left) in
+    let n = letters-length (a .c) (a .file .now) (omega (arith, flags .ensures)) in
     (known .0, omega (arith, known .1))
 
 returns : tie.Need-returns
@@ -66,6 +70,7 @@ returns-3 c =
       passed (ascended r) (c2 .if2 .left),
       lt-leb (firstArc (a .c)) (length (a .file .now)) (omega arith),
     )
+    (ap (λ (n : ℕ). Refused 1 n) (r .before .before .before .flags-at .ensures))
 
 returns-4 : tie.Need-returns-4
 unfolding firstFault
@@ -81,7 +86,7 @@ returns-4 c =
       le-leb (firstArc (a .c)) (length (a .file .now)) (omega arith),
       all-flags f ∙ lt-leb _ _ (c .if4 .taken),
     )
-    (ap (λ (n : ℕ). Refused 6 (12 + a .c .letters + n)) (flagged f))
+    (ap₂ (λ (m n : ℕ). Refused 6 (m + n)) (r .before .before .before .flags-at .ensures) (flagged f))
 
 returns-5 : tie.Need-returns-5
 unfolding firstFault
@@ -98,7 +103,7 @@ returns-5 c =
       le-leb (firstArc (a .c)) (length (a .file .now)) (omega arith),
       all-flags f ∙ le-leb _ _ (c4 .if4 .left),
     )
-    (c .read-arcs .ensures)
+    (rw (c3 .before .first-arc .ensures) at (c .read-arcs .ensures))
 
 pub read-body-spec : {M : Type 1} → statement M
 read-body-spec =

@@ -22,10 +22,10 @@ use Rattle.table_explore.proofs.walk.explore_all.Statement.{statement}
 use Rattle.table_explore.proofs.walk.explore_all.Tie as tie
 
 abbrev Inv-loop : tie.InvT-loop
-Inv-loop file counts w₀ base known₀ plain₀ c₀ w known plain c = Walking (counts .arcs) (drop (firstArc counts) file) w₀ base w known plain c
+Inv-loop file counts w₀ base count₀ plain₀ c₀ w count plain c = Walking (counts .arcs) (drop (firstArc counts) file) w₀ base w count plain c
 
 abbrev μ-loop : tie.MeasureT-loop
-μ-loop file counts w₀ base known₀ plain₀ c₀ w known plain c = 256 - c
+μ-loop file counts w₀ base count₀ plain₀ c₀ w count plain c = 256 - c
 
 loop-holds : tie.Need-loop-holds Inv-loop μ-loop
 loop-holds c = let p = c .before .before .prepare .ensures .1 .1 in walking-start (p .0) (p .1)
@@ -67,7 +67,7 @@ note-start-requires c κs =
 
 -- ---- the start is noted
 noted : (c : tie.After-note-start Inv-loop μ-loop) → let l = c .before .before .before in let a = start l .args in
-    Noted (a .counts .arcs) (drop (firstArc (a .counts)) (a .file .now)) (first l) (a .base) (l .loop .w) (c .note-start .last .0) (l .loop .known) (l .loop .plain) (l .loop .c)
+    Noted (a .counts .arcs) (drop (firstArc (a .counts)) (a .file .now)) (first l) (a .base) (l .loop .w) (c .note-start .last .0) (l .loop .count) (l .loop .plain) (l .loop .c)
 noted c =
     let l = c .before .before .before in
     record {
@@ -100,12 +100,12 @@ abbrev arcs : At → List ℕ
 arcs l = drop (firstArc (start l .args .counts)) (start l .args .file .now)
 
 told : (c : Got) (x : Explored) → c .explore-one .result ≡ x → let l = test c .loop in let a = start (test c) .args in let w = noting c .note-start .last .0 in
-    MetAll w (c .explore-one .last .1 .1 .0) (a .base) (l .known) (l .plain) (l .c) (hopsIn (a .counts) (a .file .now) (getD w (configs + l .c) 0)) x
+    MetAll w (c .explore-one .last .1 .1 .0) (a .base) (l .count) (l .plain) (l .c) (hopsIn (a .counts) (a .file .now) (getD w (configs + l .c) 0)) x
 told c x e =
     let l = test c .loop in
     let a = start (test c) .args in
     let w = noting c .note-start .last .0 in
-    subst (λ (x : Explored). MetAll w (c .explore-one .last .1 .1 .0) (a .base) (l .known) (l .plain) (l .c) (hopsIn (a .counts) (a .file .now) (getD w (configs + l .c) 0)) x) e (c .explore-one .ensures .1 .1)
+    subst (λ (x : Explored). MetAll w (c .explore-one .last .1 .1 .0) (a .base) (l .count) (l .plain) (l .c) (hopsIn (a .counts) (a .file .now) (getD w (configs + l .c) 0)) x) e (c .explore-one .ensures .1 .1)
 
 -- there are too many
 same-length : tie.Need-same-length Inv-loop μ-loop
@@ -132,7 +132,7 @@ loop-again c =
     let l = test g .loop in
     let v = c .before .more .given in
     walking-more (noted (noting g)) (g .explore-one .ensures .0)
-    (subst (λ (x : Explored). Safe (g .explore-one .last .1 .1 .0) (l .known) (l .plain + start (test g) .args .counts .arcs) x) (v .1) (g .explore-one .ensures .1 .0))
+    (subst (λ (x : Explored). Safe (g .explore-one .last .1 .1 .0) (l .count) (l .plain + start (test g) .args .counts .arcs) x) (v .1) (g .explore-one .ensures .1 .0))
     (told g (Tables (v .0 .0) (v .0 .1 .0)) (v .1))
 
 -- all have been walked

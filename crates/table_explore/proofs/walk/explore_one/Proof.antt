@@ -18,16 +18,16 @@ use Rattle.table_explore.proofs.walk.explore_one.Statement.{statement}
 use Rattle.table_explore.proofs.walk.explore_one.Tie as tie
 
 abbrev Inv-loop : tie.InvT-loop
-Inv-loop file counts w base c from-known from-plain own known plain j at p regs₀ k₀ regs k = Performing file at p own k regs
+Inv-loop file counts w base c from-count from-plain own count plain j at p regs₀ k₀ regs k = Performing file at p own k regs
 
 abbrev μ-loop : tie.MeasureT-loop
-μ-loop file counts w base c from-known from-plain own known plain j at p regs₀ k₀ regs k = p - k
+μ-loop file counts w base c from-count from-plain own count plain j at p regs₀ k₀ regs k = p - k
 
 abbrev Inv-arcs : tie.InvT-arcs
-Inv-arcs file counts w₀ base c from-known from-plain own known₀ plain₀ j₀ w known plain j = Going file w₀ counts base c from-known from-plain own w known plain j
+Inv-arcs file counts w₀ base c from-count from-plain own count₀ plain₀ j₀ w count plain j = Going file w₀ counts base c from-count from-plain own w count plain j
 
 abbrev μ-arcs : tie.MeasureT-arcs
-μ-arcs file counts w₀ base c from-known from-plain own known₀ plain₀ j₀ w known plain j = (j + 1) % 65536
+μ-arcs file counts w₀ base c from-count from-plain own count₀ plain₀ j₀ w count plain j = (j + 1) % 65536
 
 -- ---- places: the function's entry, and the loop's test of a turn
 abbrev At : Type 0
@@ -65,7 +65,7 @@ get16-requires-3 c κs =
 
 -- ---- a turn at entry j
 turn : (c : In) → let a = start (test c) .args in let l = test c .arcs in
-    Turn (a .file .now) (a .w .now) (a .counts) (a .base) (a .c) (a .from-known) (a .from-plain) (getD (a .w .now) (configs + a .c) 0) (l .w) (l .known) (l .plain) (l .j) (c .before .before .get162 .result) (c .get163 .result)
+    Turn (a .file .now) (a .w .now) (a .counts) (a .base) (a .c) (a .from-count) (a .from-plain) (getD (a .w .now) (configs + a .c) 0) (l .w) (l .count) (l .plain) (l .j) (c .before .before .get162 .result) (c .get163 .result)
 turn c =
     let s = start (test c) in
     record {
@@ -84,7 +84,7 @@ loop-holds c = performing-start _ _ _ _ _ (c .contents-of .ensures) (rw (c .befo
 operate-at-requires : tie.Need-operate-at-requires Inv-loop μ-loop Inv-arcs μ-arcs
 operate-at-requires c κs =
     let q = next-ok _ _ _ _ (c .loop-test .taken) (c .before .loop .inv) in
-    (omega (arith, arc-here (turn (c .before .before .before .before)) .fits, c .before .before .before .byte .ensures .0), q .0, q .1, c .before .loop .inv .fits)
+    (omega (arith, arc-here (turn (c .before .before .before .before)) .fits, c .before .before .before .byte .ensures .0), omega (arith, q .0), omega (arith, q .1), c .before .loop .inv .fits)
 
 -- the arc fails
 arcs-again : tie.Need-arcs-again Inv-loop μ-loop Inv-arcs μ-arcs
@@ -109,13 +109,13 @@ abbrev Got : Type 0
 Got = tie.After-arrive Inv-loop μ-loop Inv-arcs μ-arcs
 
 told : (c : Got) (x : Explored) → c .arrive .result ≡ x → let r = c .before .before .before .before .before .before in let a = start (test r) .args in let l = test r .arcs in let at = r .before .before .get162 .result in
-    Met (l .w) (c .arrive .last .1 .1 .1 .0) (a .base) (l .known) (l .plain) (a .c) (letterOf (getD (a .file .now) (at + 1) 0)) (c .before .before .before .loop .regs + getD (a .file .now) (at + 2) 0 * 2 ^ 32) x
+    Met (l .w) (c .arrive .last .1 .1 .1 .0) (a .base) (l .count) (l .plain) (a .c) (letterOf (getD (a .file .now) (at + 1) 0)) (c .before .before .before .loop .regs + getD (a .file .now) (at + 2) 0 * 2 ^ 32) x
 told c x e =
     let r = c .before .before .before .before .before .before in
     let a = start (test r) .args in
     let l = test r .arcs in
     let at = r .before .before .get162 .result in
-    subst (λ (x : Explored). Met (l .w) (c .arrive .last .1 .1 .1 .0) (a .base) (l .known) (l .plain) (a .c) (letterOf (getD (a .file .now) (at + 1) 0)) (c .before .before .before .loop .regs + getD (a .file .now) (at + 2) 0 * 2 ^ 32) x) e (c .arrive .ensures .1 .1)
+    subst (λ (x : Explored). Met (l .w) (c .arrive .last .1 .1 .1 .0) (a .base) (l .count) (l .plain) (a .c) (letterOf (getD (a .file .now) (at + 1) 0)) (c .before .before .before .loop .regs + getD (a .file .now) (at + 2) 0 * 2 ^ 32) x) e (c .arrive .ensures .1 .1)
 
 same-length : tie.Need-same-length Inv-loop μ-loop Inv-arcs μ-arcs
 same-length c = let g = c .before .before .before .before in g .arrive .ensures .0 .long ∙ turn (g .before .before .before .before .before .before) .going .kept .long
@@ -139,7 +139,7 @@ arcs-again-2 c =
     let v = c .before .more .given in
     going-met (turn (g .before .before .before .before .before .before)) (g .before .before .before .before .before .byte .ensures .0) (performing-end _ _ _ _ (g .before .before .loop-test .left) (g .before .before .before .loop .inv))
     (g .arrive .ensures .0)
-    (subst (λ (x : Explored). Safe (g .arrive .last .1 .1 .1 .0) (l .known) (l .plain + 1) x) (v .1) (g .arrive .ensures .1 .0))
+    (subst (λ (x : Explored). Safe (g .arrive .last .1 .1 .1 .0) (l .count) (l .plain + 1) x) (v .1) (g .arrive .ensures .1 .0))
     (told g (Tables (v .0 .0) (v .0 .1 .0)) (v .1))
 
 same-length-2 : tie.Need-same-length-2 Inv-loop μ-loop Inv-arcs μ-arcs

@@ -22,7 +22,7 @@ loop-holds c =
 operate-at-requires : tie.Need-operate-at-requires Inv-loop μ-loop
 operate-at-requires c κs =
     let q = next-ok _ _ _ _ (c .loop-test .taken) (c .before .loop .inv) in
-    (omega arith, q .0, q .1, omega arith)
+    (omega arith, omega (arith, q .0), omega (arith, q .1), omega arith)
 
 returns : tie.Need-returns Inv-loop μ-loop
 returns c =

@@ -5,7 +5,7 @@ use borrow.Author.Needs.{needs}
 use lib.ListN.{length}
 use Rattle.file_laws.proofs.Laws.{valid-ranges}
 use Rattle.file_writing.proofs.Laws.{appended-length, front-ends, written-then}
-use Rattle.table.proofs.Laws.{holds-end, holds-room, holds-valid}
+use Rattle.table.proofs.Laws.{holds-end, holds-numbered, holds-room, holds-valid}
 use Rattle.unfold.proofs.ResultBytes.{arcs-length, count-few, count-some, flags-size, result-length, result-parts}
 use Rattle.unfold.proofs.result.write_file.Statement.{statement}
 use Rattle.unfold.proofs.result.write_file.Tie as tie
@@ -72,7 +72,7 @@ write-file-spec =
     tie.close
     (tie.spec
     write-front-requires
-    (λ c κs. c .before .before .before .before .before .before .before .pre .0)
+    (λ c κs. holds-numbered (c .before .before .before .before .before .before .before .pre .0))
     write-flags-requires
     write-arcs-requires
     (λ c. search needs)

@@ -1,0 +1,25 @@
+-- `bookjoin::close_one` meets its contract: what was loaded stands in the buffer.
+use borrow.Author.Needs.{needs}
+use Rattle.book_console.proofs.Laws.{loaded-most}
+use Rattle.bookjoin.proofs.close_one.Statement.{statement}
+use Rattle.bookjoin.proofs.close_one.Tie as tie
+
+part-close-end : tie.Need-part-close-end
+part-close-end c = loaded-most _ _ (c .before .before .before .before .before .load .ensures) (c .before .before .a .given .1)
+
+pub close-one-spec : {M : Type 1} → statement M
+close-one-spec =
+    tie.close
+    (tie.spec
+    (λ c. search needs)
+    (λ c κs. search needs)
+    (λ c. search needs)
+    (λ c. search needs)
+    (λ c. search needs)
+    (λ c. search needs)
+    (λ c. search needs)
+    part-close-end
+    (λ c κs. search needs)
+    (λ c κs. search needs)
+    (λ c. search needs)
+    (λ c. search needs))

@@ -1,0 +1,41 @@
+-- Standing: the configurations of a valid file's automaton in the words, and its block once its rows are closed. Crates above take both
+-- whole: what they need of them is in proofs/Laws.antt.
+use mathlib.Core.Path.{_≡_}
+use mathlib.Core.List.{List}
+use Prim.Native.Nat.{_+_, _≤_, ℕ}
+use lib.ListN.{length}
+use Rattle.automata.specs.Unfolding.{configurations}
+use Rattle.file_fields.specs.declared.Counts.{Counts}
+use Rattle.file_fields.specs.declared.Reading.the-variants.{Valid}
+use Rattle.format.specs.Decoding.{automatonOf}
+use Rattle.format.specs.Reading.{readingOf}
+use Rattle.word_layout.specs.Layout.{configs, firstSets}
+use Rattle.word_layout.specs.declared.Block.{Block}
+use Rattle.table_configurations.specs.declared.Explored.{Explored}
+use Rattle.table_configurations.specs.declared.Explored.the-variants.{Tables, TooMany}
+use Rattle.table_live.specs.Steps.{Steppable}
+use Rattle.table.specs.Built.{Built, Stored}
+
+-- the file is valid and has the counts c, and the configurations of its automaton stand in the words, in the order of their numbers; they
+-- do until another automaton is built
+pub record Numbered (file : List ℕ) (c : Counts) (w : List ℕ) (count : ℕ) : Type 0 where
+  pub valid : readingOf file ≡ Valid c
+  pub few : count ≤ 256
+  pub there : configs + count ≤ length w
+  pub many : count ≡ length (configurations (automatonOf file) 256)
+  pub stored : Stored (automatonOf file) 256 w count
+
+-- the file is valid and has the counts c, and the block holds its automaton: its rows, closed, and its plain arcs where they fit
+pub record Stands (file : List ℕ) (c : Counts) (w : List ℕ) (block : Block) : Type 0 where
+  pub numbered : Numbered file c w (block .count)
+  pub built : Built (automatonOf file) 256 w (block .base) (block .count) (block .plain)
+
+-- the block from the word `base` on, of what building answers
+abbrev pub StandsBy : (file : List ℕ) (c : Counts) (w : List ℕ) (base : ℕ) → Explored → Type 0
+StandsBy file c w base TooMany = Unit {0}
+StandsBy file c w base (Tables count plain) = Stands file c w (record { base = base; count = count; plain = plain })
+
+-- a word can be judged: the automaton of the file stands in the block, and a step can be taken, over the list or by the file
+pub record Ready (file : List ℕ) (c : Counts) (w : List ℕ) (block : Block) : Type 0 where
+  pub stands : Stands file c w block
+  pub steps : Steppable file c w block firstSets

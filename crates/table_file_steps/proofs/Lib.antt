@@ -1,0 +1,2 @@
+pub mod VisitFile
+pub mod Laws

@@ -1,0 +1,3 @@
+-- Laws: the laws of this crate that crates above cite. A law that is not named here may change.
+-- words written elsewhere leave what a step asks for, and what tells it the plain arcs, as they were
+pub use Rattle.table_live.proofs.StepFrame.{outgoing-kept, steppable-kept}

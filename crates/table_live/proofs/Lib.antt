@@ -1,0 +1,3 @@
+pub mod StepFrame
+pub mod WalkWord
+pub mod Laws
