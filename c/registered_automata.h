@@ -160,8 +160,9 @@ struct ra_written ra_intersect(const uint8_t *first, size_t first_length,
 struct ra_written ra_close(const uint8_t *file, size_t file_length,
                            uint8_t *out, size_t out_length);
 
-/* Do the two accept the same words, of every length? Where they don't, a shortest word that exactly one accepts is written to the
- * front of `word`, which needs RA_WORD_BYTES bytes or more; where they do, `word` is left as it was lent.
+/* Do the two accept the same words, of every length? Where they don't, the first word that exactly one accepts is written to the
+ * front of `word`, which needs RA_WORD_BYTES bytes or more; where they do, `word` is left as it was lent. The first is that of the
+ * shortest which is first in letter order: where two words first differ, the letter that is listed first decides.
  * Refused: 1 to 10, 21 to 24. */
 struct ra_comparison ra_compare(const uint8_t *first, size_t first_length,
                                 const uint8_t *second, size_t second_length,

@@ -1,4 +1,4 @@
-/* Calls each function of the static library on four small automata, and checks every answer and every lent byte.
+/* Calls each function of the static library on five small automata, and checks every answer and every lent byte.
  * Prints what it did. The exit status is 1 where an answer is another than the expected one. */
 #include "registered_automata.h"
 
@@ -24,6 +24,16 @@ static const uint8_t V[] = {
     0, 1, 1, 1, 0x11, 2,
     1, 2, 1, 1, 0x00, 0,
     1, 0, 2, 1, 0x01, 1,
+};
+
+/* U: T without agreement at the end, so that either letter leads there. */
+static const uint8_t U[] = {
+    0x4D, 0x4C, 0x42, 1, 0, 3, 3, 0, 2, 3, 5, 0, 'c', 'e', 'm', 0, 0, 1,
+    0, 0, 1, 1, 0x11, 1,
+    0, 1, 1, 1, 0x11, 2,
+    1, 2, 1, 1, 0x00, 0,
+    1, 0, 2, 1, 0x00, 0,
+    1, 1, 2, 1, 0x00, 0,
 };
 
 /* K: one c, where register 1 holds 0, which is then replaced by 1. */
@@ -318,6 +328,12 @@ static void test_compare(void) {
     printf("ra_compare of V and T\n");
     lend();
     expect_comparison(ra_compare(V, sizeof V, T, sizeof T, work, RA_WORKING_WORDS, out, RA_WORD_BYTES), 2, 6, "ee");
+    printf("ra_compare of U and T: ce comes before ec\n");
+    lend();
+    expect_comparison(ra_compare(U, sizeof U, T, sizeof T, work, RA_WORKING_WORDS, out, RA_WORD_BYTES), 1, 8, "ce");
+    printf("ra_compare of T and U\n");
+    lend();
+    expect_comparison(ra_compare(T, sizeof T, U, sizeof U, work, RA_WORKING_WORDS, out, RA_WORD_BYTES), 2, 8, "ce");
     printf("ra_compare of T and K\n");
     lend();
     expect_no_comparison(ra_compare(T, sizeof T, K, sizeof K, work, RA_WORKING_WORDS, out, RA_WORD_BYTES), RA_LETTER_LISTS_DIFFER, 0);

@@ -56,8 +56,9 @@ pub enum Comparison {
     Same {
         pairs: u64,
     },
-    /// The word that is shown has `length` bytes, at the front of the buffer lent, and is a shortest one that exactly
-    /// one of the two accepts: the one named.
+    /// The word that is shown has `length` bytes, at the front of the buffer lent, and is the first that exactly one of the
+    /// two accepts: the one named. Words come in order by their length, and then by the places of their letters in the
+    /// letter list.
     Different {
         pairs: u64,
         accepted_by: Automaton,
@@ -180,8 +181,8 @@ pub fn close(file: &[u8], out: &mut [u8]) -> Result<usize, Refusal> {
     written(unsafe { engine::ra_close(file.as_ptr(), file.len(), out.as_mut_ptr(), out.len()) })
 }
 
-/// Do the two accept the same words, of every length? Where they don't, a shortest word that exactly one accepts is
-/// written to the front of `word`.
+/// Do the two accept the same words, of every length? Where they don't, the first word that exactly one accepts is
+/// written to the front of `word`: of the shortest ones, the first in letter order.
 ///
 /// Refused, in this order: 24 with fewer than [`WORKING_WORDS`] or a `word` of fewer than [`WORD_BYTES`]; 1 to 9 of the
 /// first, then of the second; 10; 21 and 22 of the first, then of the second; 23.

@@ -1,4 +1,4 @@
--- ExplorationLaws: the walk numbers exactly what can be reached, each once, nearest first, or shows more than its limit.
+-- ExplorationLaws: the walk numbers exactly what can be reached, each once, or shows more than its limit.
 use mathlib.Core.Path.{_∙_, _≡_, ap, refl, sym}
 use mathlib.Core.Logic.{_↔_, _⊎_, inl, inr, ⊎-elim}
 use Prim.Native.Nat.{_+_, _<_, _≤_, suc, zero, ℕ}
@@ -13,7 +13,7 @@ use native.Mathlib.Omega.{arith}
 use Rattle.automata.specs.Automaton.{start}
 use Rattle.automata.specs.Counting.{Apart, Exactly, MoreThan}
 use Rattle.automata.specs.Exploration.{Distinct, Reach, add, addAll, first, has, known, later, targets, walk}
-use Rattle.automata.proofs.ListLaws.{any-iff, at-mem, getElem?-append, getElem?-lt, getElem?-none, getElem?-some, mem-at, none-some, snoc-at-cases}
+use Rattle.automata.proofs.ListLaws.{any-iff, at-mem, getElem?-append, getElem?-lt, getElem?-none, getElem?-some, mem-at, snoc-at-cases}
 
 module _ {X : Type 0} (same : X → X → Bool) where
   pub has-iff : (x : X) (l : List X) → T (has same x l) ↔ ((y : X) × List·Memᴰ y l × T (same x y))
@@ -29,7 +29,7 @@ module _ {X : Type 0} (same : X → X → Bool) where
       go true e = inl (rw e tt, rw e)
       go false e = inr (λ t. rw e at t, rw e)
 
-  addAll-mem : (l xs : List X) {y : X} → List·Memᴰ y l → List·Memᴰ y (addAll same l xs)
+  pub addAll-mem : (l xs : List X) {y : X} → List·Memᴰ y l → List·Memᴰ y (addAll same l xs)
   unfolding addAll
   addAll-mem l [] m = m
   addAll-mem l (x ∷ xs) {y} m = addAll-mem (add same l x) xs (⊎-elim (λ p. rw (p .1) m) (λ p. rw (p .1) (Memᴰ·append-left (x ∷ []) m)) (add-cases l x))
@@ -47,7 +47,7 @@ module _ {X : Type 0} (same : X → X → Bool) where
       ⊎-elim (λ p. omega (arith, ap length (p .1))) (λ p. omega (arith, ap length (p .1), length-append l (x ∷ []))) (add-cases l x)
 
   -- what is added is old or comes from the targets
-  addAll-cases : (l xs : List X) {y : X} → List·Memᴰ y (addAll same l xs) → List·Memᴰ y l ⊎ List·Memᴰ y xs
+  pub addAll-cases : (l xs : List X) {y : X} → List·Memᴰ y (addAll same l xs) → List·Memᴰ y l ⊎ List·Memᴰ y xs
   unfolding addAll
   addAll-cases l [] m = inl m
   addAll-cases l (x ∷ xs) {y} m = ⊎-elim one (λ (m : List·Memᴰ y xs). inr (List·Memᴰ·tail m)) (addAll-cases (add same l x) xs m)
@@ -56,7 +56,7 @@ module _ {X : Type 0} (same : X → X → Bool) where
       one m = ⊎-elim (λ p. inl (rw (p .1) at m)) (λ p. ⊎-elim (λ (k : List·Memᴰ y l). inl k) (λ (k : List·Memᴰ y (x ∷ [])). inr (List·Memᴰ·head (List·Memᴰ·eq-of-singleton k))) (List·Memᴰ·append-cases l (rw (p .1) at m))) (add-cases l x)
 
   -- by number: an old one keeps its number, and a new one stands behind the old ones
-  addAll-at-cases : (l xs : List X) (j : ℕ) {y : X} → getElem? (addAll same l xs) j ≡ some y → (getElem? l j ≡ some y) ⊎ ((length l ≤ j) × List·Memᴰ y xs)
+  pub addAll-at-cases : (l xs : List X) (j : ℕ) {y : X} → getElem? (addAll same l xs) j ≡ some y → (getElem? l j ≡ some y) ⊎ ((length l ≤ j) × List·Memᴰ y xs)
   unfolding addAll
   addAll-at-cases l [] j p = inl p
   addAll-at-cases l (x ∷ xs) j {y} p = ⊎-elim
@@ -156,7 +156,7 @@ module _ {X : Type 0} (same : X → X → Bool) (next : X → List X) (start : L
       (has-iff same y (at (suc n))) .1 (p .0, at-mem (at (suc n)) (q .0) (known-keeps n (q .0) (q .1)), p .2)
 
   -- the numbers up to the one that is walked were given before
-  known-before : (n i : ℕ) {x : X} → i ≤ n → getElem? (at (suc n)) i ≡ some x → getElem? (at n) i ≡ some x
+  pub known-before : (n i : ℕ) {x : X} → i ≤ n → getElem? (at (suc n)) i ≡ some x → getElem? (at n) i ≡ some x
   known-before n i {x} h p = go (step n)
     where
       go : Step same next (at n) n (at (suc n)) → getElem? (at n) i ≡ some x
@@ -231,92 +231,3 @@ module _ {X : Type 0} (same : X → X → Bool) (eq : (x y : X) → T (same x y)
 
   pub walk-more : (L : ℕ) → L < length (known same next start L) → MoreThan (Reach next start) L
   walk-more L h = record { list = known same next start L; apart = distinct-apart same eq (known same next start L) (known-distinct same next start d L); each = λ x k. known-sound same next start L k; many = h }
-
--- ---- the walk goes by size: what comes first was reached by the fewest steps
-module _ {X : Type 0} (same : X → X → Bool) (next : X → List X) (s₀ : X) (size : X → ℕ) (next-size : (x y : X) → List·Memᴰ y (next x) → size y ≡ suc (size x)) where
-  abbrev upto : ℕ → List X
-  upto n = known same next (s₀ ∷ []) n
-
-  pub record Ordered (n : ℕ) : Type 0 where
-    pub rising : (i j : ℕ) (x y : X) → i ≤ j → getElem? (upto n) i ≡ some x → getElem? (upto n) j ≡ some y → size x ≤ size y
-    pub near : (i j : ℕ) (x y : X) → n ≤ i → getElem? (upto n) i ≡ some x → getElem? (upto n) j ≡ some y → size y ≤ suc (size x)
-
-  pub ordered : (n : ℕ) → Ordered n
-  unfolding known
-  ordered zero = record { rising = λ i j x y h p q. omega (arith, ap size (only i p), ap size (only j q)); near = λ i j x y h p q. omega (arith, ap size (only i p), ap size (only j q)) }
-    where
-      only : (i : ℕ) {x : X} → getElem? (s₀ ∷ []) i ≡ some x → x ≡ s₀
-      only zero {x} p = sym (Option·some-injective s₀ x p)
-      only (suc i) p = none-some refl p
-  ordered (suc n) = go (ordered n) (step same next (s₀ ∷ []) n)
-    where
-      go : Ordered n → Step same next (upto n) n (upto (suc n)) → Ordered (suc n)
-      go ih (ended h e) = record {
-        rising = λ i j x y h p q. ih .rising i j x y h (rw e at p) (rw e at q);
-        near = λ i j x y h p q. ih .near i j x y (omega arith) (rw e at p) (rw e at q);
-      }
-      go ih (walks z o e) = record { rising = rise; near = λ i j x y h p q. omega (arith, rise n i z x (omega arith) (known-keeps same next (s₀ ∷ []) n n o) p, most j y q) }
-        where
-          cases : (j : ℕ) (y : X) → getElem? (upto (suc n)) j ≡ some y → (getElem? (upto n) j ≡ some y) ⊎ ((length (upto n) ≤ j) × List·Memᴰ y (next z))
-          cases j y q = addAll-at-cases same (upto n) (next z) j (rw e at q)
-
-          most : (j : ℕ) (y : X) → getElem? (upto (suc n)) j ≡ some y → size y ≤ suc (size z)
-          most j y q = ⊎-elim (λ r. ih .near n j z y (omega arith) o r) (λ r. omega (arith, next-size z y (r .1))) (cases j y q)
-
-          rise : (i j : ℕ) (x y : X) → i ≤ j → getElem? (upto (suc n)) i ≡ some x → getElem? (upto (suc n)) j ≡ some y → size x ≤ size y
-          rise i j x y h p q = ⊎-elim
-              (λ r. ⊎-elim
-              (λ t. ih .rising i j x y h r t)
-              (λ t. omega (arith, most i x p, next-size z y (t .1))) (cases j y q))
-              (λ r. ⊎-elim
-              (λ t. absurd (omega (arith, r .0, getElem?-lt (upto n) j t)))
-              (λ t. omega (arith, next-size z x (r .1), next-size z y (t .1))) (cases j y q))
-              (cases i x p)
-
-  -- what is known once z has been walked was reached by one step more than z at the most
-  most : (n : ℕ) (z : X) → getElem? (upto n) n ≡ some z → upto (suc n) ≡ addAll same (upto n) (next z) → (j : ℕ) (y : X) → getElem? (upto (suc n)) j ≡ some y → size y ≤ suc (size z)
-  most n z q e j y p = ⊎-elim
-      (λ f. (ordered n) .near n j z y (omega arith) q f)
-      (λ f. omega (arith, next-size z y (f .1)))
-      (addAll-at-cases same (upto n) (next z) j (rw e at p))
-
-  module _ (same-refl : (x : X) → T (same x x)) where
-    pub record Met (n : ℕ) (y : X) (bound : ℕ) : Type 0 where
-      pub it : X
-      pub place : ℕ
-      pub stands : getElem? (upto n) place ≡ some it
-      pub alike : T (same y it)
-      pub short : size it ≤ bound
-
-    short-walked : (n i : ℕ) (x y : X) → i < n → getElem? (upto n) i ≡ some x → List·Memᴰ y (next x) → Met n y (suc (size x))
-    short-walked zero i x y h p m = absurd (not-suc-le-zero h)
-    short-walked (suc n) i x y h p m = go (λ l. short-walked n i x y l b m) (decLt i n) (step same next (s₀ ∷ []) n)
-      where
-        b : getElem? (upto n) i ≡ some x
-        b = known-before same next (s₀ ∷ []) n i (le-of-suc-le-suc h) p
-
-        go : (i < n → Met n y (suc (size x))) → Dec (i < n) → Step same next (upto n) n (upto (suc n)) → Met (suc n) y (suc (size x))
-        go ih (yes l) s =
-            let r = ih l in
-            record { it = r .it; place = r .place; stands = known-keeps same next (s₀ ∷ []) n (r .place) (r .stands); alike = r .alike; short = r .short }
-        go ih (no l) (ended k e) = absurd (omega (arith, getElem?-lt (upto n) i b))
-        go ih (no l) (walks z q e) =
-            let here : i ≡ n = omega arith in
-            let x≡z : x ≡ z = Option·some-injective x z (sym (rw here at b) ∙ q) in
-            let t : T (has same y (upto (suc n))) = rw e (addAll-has same same-refl (upto n) (next z) (rw x≡z at m)) in
-            let r = (has-iff same y (upto (suc n))) .0 t in
-            let a = mem-at (r .1) in
-            record { it = r .0; place = a .0; stands = a .1; alike = r .2; short = omega (arith, most n z q e (a .0) (r .0) (a .1), ap size x≡z) }
-
-    -- `same` is a bisimulation
-    module _ (same-trans : (x y z : X) → T (same x y) → T (same y z) → T (same x z))
-        (same-next : (x z y : X) → T (same x z) → List·Memᴰ y (next x) → (y′ : X) × List·Memᴰ y′ (next z) × T (same y y′)) where
-      pub shortest : (n : ℕ) {x : X} → length (upto n) ≤ n → Reach next (s₀ ∷ []) x → Met n x (size x)
-      shortest n {x} h (first m) =
-          let e : x ≡ s₀ = List·Memᴰ·eq-of-singleton m in
-          record { it = s₀; place = 0; stands = known-first same next (s₀ ∷ []) n 0 refl; alike = rw e (same-refl s₀); short = omega (arith, ap size e) }
-      shortest n {x} h (later {x = v} r m) =
-          let u = shortest n h r in
-          let f = same-next v (u .it) x (u .alike) m in
-          let g = short-walked n (u .place) (u .it) (f .0) (omega (arith, getElem?-lt (upto n) (u .place) (u .stands))) (u .stands) (f .1) in
-          record { it = g .it; place = g .place; stands = g .stands; alike = same-trans x (f .0) (g .it) (f .2) (g .alike); short = omega (arith, g .short, u .short, next-size v x m) }

@@ -1,26 +1,28 @@
 -- Laws: the laws of this crate that crates above cite. A law that is not named here may change.
 -- the theorems, each in a statement that can be read by itself
-pub use Rattle.automata.proofs.Theorems.{closing, comparing, comparing-more, concatenating, intersecting, membership, pairing, reaching-more, unfolding-language, uniting}
+pub use Rattle.automata.proofs.Theorems.{closing, comparing, comparing-more, concatenating, counting-unique, intersecting, membership, pairing, reaching-more, unfolding-language, uniting}
 -- small laws of lists, options and tests that the library lacks
 pub use Rattle.automata.proofs.ListLaws.{and-iff, any-iff, at-back, at-front, at-map, at-mem, at-none, at-some, bool-ext, countFrom-iff, each-at, each-join, each-mem, each-split, eqb-iff, getElem?-append, getElem?-lt, getElem?-none, getElem?-some, iff-trans, map-append, map-map, mem-at, mem-each, none-some, not-iff, only-iff, or-iff, sameBy-iff, snoc-at-cases}
 -- runs one after the other, and runs carried over to other moves
 pub use Rattle.automata.proofs.RunLaws.{joined}
 -- what is computed of operations and arcs is what document 003 relates
 pub use Rattle.automata.proofs.PerformingLaws.{successors-iff}
--- the walk numbers exactly what can be reached, each once, nearest first, or shows more than its limit
+-- the walk numbers exactly what can be reached, each once, or shows more than its limit
 pub use Rattle.automata.proofs.ExplorationLaws.{add-cases, addAll-at, addAll-length, has-iff, known-distinct, known-ended, known-long, known-sound}
 -- the number of an element in a list: what it is of a member, of a new one, and that a number once given stays
 pub use Rattle.automata.proofs.NumberLaws.{add-new, add-old, addAll-prefix, known-prefix, number-add, number-append, number-at, one-number}
 -- exploring is the same on images, where f tells apart what the tests tell apart, on elements that have a property P.
 pub use Rattle.automata.proofs.Mapped.{known-map, number-map}
--- words as bytes: what they stand for, and how properties of words carry over to them
-pub use Rattle.automata.proofs.WordLaws.{spelled-both}
+-- the order of words: a word that does not come before another is at least as long
+pub use Rattle.automata.proofs.WordOrderLaws.{not-before-long}
+-- words as bytes: what they stand for, their order, and how properties of words carry over to them
+pub use Rattle.automata.proofs.WordLaws.{spelled-both, spelled-one, spells-places}
 -- the live set of a word holds exactly the ends of the runs that spell it
 pub use Rattle.automata.proofs.LiveLaws.{byLetter-closed, byLetter-iff, closed-run, epsilonClosure-closed, epsilonClosure-iff, in-table, length-byLetter, length-rounds, length-table, run-below}
 -- the numbered configurations and plain arcs run as the automaton does (document 003, Theorem 1)
 pub use Rattle.automata.proofs.UnfoldingLaws.{distinct, first-configuration, meets-iff, moves-from, moves-to, sameConfiguration-iff, within}
--- each word that is met leads to its state, and the first that leads somewhere is a shortest one
-pub use Rattle.automata.proofs.SearchLaws.{First, at, firstOf-first, nowhere}
+-- the first of a list that passes a test, by what stands where in the list
+pub use Rattle.automata.proofs.FirstLaws.{First, at, firstOf-first, nowhere}
 -- the pairs that the search meets are the pairs of words; their number is exact, and refusal 23 says what it should
 pub use Rattle.automata.proofs.PairLaws.{samePair-iff, shown-many}
 -- the languages of the joined and the unfolded automata, for words of bytes and of every length

@@ -3,6 +3,8 @@ pub mod RunLaws
 pub mod PerformingLaws
 pub mod CountingLaws
 pub mod ExplorationLaws
+pub mod OrderedExploration
+pub mod WordOrderLaws
 pub mod NumberLaws
 pub mod Mapped
 pub mod WordLaws
@@ -12,6 +14,7 @@ pub mod PlainArcLaws
 pub mod ReachLaws
 pub mod UnfoldedLaws
 pub mod MembershipLaws
+pub mod FirstLaws
 pub mod SearchLaws
 pub mod PairLaws
 pub mod PairSets

@@ -1,22 +1,26 @@
--- PairLaws: the pairs that the search meets are the pairs of words; their number is exact, and refusal 23 says what it should.
+-- PairLaws: the pairs that the search meets are the pairs of words; their number is exact, and refusal 23 says what it should; the first
+-- pair whose answers pass a test has the first word whose answers do, whatever the test.
 use mathlib.Core.Path.{_∙_, _≡_, ap, refl, sym}
 use mathlib.Core.Logic.{_↔_}
 use Prim.Native.Nat.{_<_, _≤_, ℕ}
 use lib.Dec.{T}
 use lib.ListN.{length, length-map}
-use mathlib.Core.Bool.{Bool·beq}
+use mathlib.Core.Bool.{Bool, Bool·beq}
 use mathlib.Core.List.{List, [], _∷_}
+use mathlib.Core.Option.{Option, none, some}
 use native.Mathlib.Decide.{decLt}
 use native.Mathlib.Omega.{arith}
 use Rattle.automata.specs.Automaton.{Automaton, letters}
 use Rattle.automata.specs.Counting.{Exactly, MoreThan}
 use Rattle.automata.specs.Live.{live, liveFrom}
-use Rattle.automata.specs.Pairs.{Pair, SomePair, onward, pairOf, pairs, samePair, shown}
-use Rattle.automata.specs.Search.{Entry, leads}
-use Rattle.automata.specs.Unfolding.{configurations, liveSet, plainArcs}
+use Rattle.automata.specs.Pairs.{Pair, SomePair, answersPass, firstAccepts, firstPassing, onward, pairOf, pairs, samePair, secondAccepts, shown}
+use Rattle.automata.specs.Search.{Entry, Finds, Over, Passes, leads}
+use Rattle.automata.specs.Unfolding.{accepted, configurations, liveSet, plainArcs}
+use Rattle.automata.specs.WordOrder.{Before, Earliest}
 use Rattle.automata.proofs.CountingLaws.{counts-same, more-same, not-more}
 use Rattle.automata.proofs.ListLaws.{and-iff, beq-iff, sameBy-iff}
-use Rattle.automata.proofs.SearchLaws.{Led, entries-met, met-counts, met-more}
+use Rattle.automata.proofs.SearchLaws.{Led, entries-met, first-found, met-counts, met-more}
+use Rattle.automata.proofs.WordOrderLaws.{earliest-same}
 
 pub samePair-iff : (p q : Pair) → T (samePair p q) ↔ (p ≡ q)
 unfolding samePair
@@ -63,3 +67,27 @@ module _ (x y : Automaton) (L : ℕ) where
   shown-many P =
       sym (length-map (shown x y L P) (λ (e : Entry Pair). e .state))
       ∙ ap (λ (l : List Pair). length l) (entries-met samePair (onward x y L) (letters x) (pairOf x y L []) P)
+
+  -- ---- a test of the two automata's answers
+  module _ (test : Bool → Bool → Bool) where
+    -- the word is over the letters, and its answers pass
+    abbrev pub AnswersPass : List ℕ → Type 0
+    AnswersPass w = Over (letters x) w × T (test (accepted x L w) (accepted y L w))
+
+    -- there is no pair that passes, and no word does; or its word has that pair, and is the first of the words that pass
+    abbrev pub FindsPair : Option (Entry Pair) → Type 0
+    FindsPair none = (w : List ℕ) → ¬ AnswersPass w
+    FindsPair (some e) = (e .state ≡ pairOf x y L (e .word)) × Earliest Before AnswersPass (e .word)
+
+    passing : (w : List ℕ) → Passes (onward x y L) (letters x) (pairOf x y L []) (answersPass x y L test) w ↔ AnswersPass w
+    unfolding answersPass firstAccepts secondAccepts accepted pairOf
+    passing w = rw (leads-pairOf w) (λ p. p, λ p. p)
+
+    pub first-passing : (P : ℕ) → length (pairs x y L P) ≤ P → FindsPair (firstPassing x y L test P)
+    unfolding firstPassing shown
+    first-passing P few = go (firstPassing x y L test P)
+        (first-found samePair (onward x y L) (letters x) (pairOf x y L []) samePair-iff (answersPass x y L test) P (omega (arith, shown-many P)))
+      where
+        go : (o : Option (Entry Pair)) → Finds (onward x y L) (letters x) (pairOf x y L []) (answersPass x y L test) o → FindsPair o
+        go none h = λ w p. h w ((passing w) .1 p)
+        go (some e) h = (sym (h .0) ∙ leads-pairOf (e .word), earliest-same (e .word) passing (h .1))

@@ -1,24 +1,28 @@
--- SearchLaws: each word that is met leads to its state, and the first that leads somewhere is a shortest one.
-use mathlib.Core.Path.{_∙_, _≡_, ap, refl, sym}
-use mathlib.Core.Logic.{_↔_, ⊎-elim}
+-- SearchLaws: each word that is met leads to its state, and no word that leads there comes before it; entries stand in the order of their
+-- words, and so the first that passes a test has the first word that leads to such a state. Over any states, and any test of them.
+use mathlib.Core.Path.{_∙_, _≡_, ap, refl, subst, sym}
+use mathlib.Core.Logic.{_↔_, _⊎_, inl, inr, ⊎-elim}
 use Prim.Native.Nat.{_<_, _≤_, suc, zero, zero-le, ℕ}
 use lib.Dec.{T}
-use lib.ListN.{getElem?, length, length-append}
+use lib.ListN.{getElem?, length}
 use lib.Seq.{append-snoc}
-use mathlib.Core.Bool.{Bool, false, true}
-use mathlib.Core.List.{List, List·Memᴰ, List·Memᴰ·cases-cons, List·Memᴰ·eq-of-singleton, List·Memᴰ·head, List·Memᴰ·not-nil, Memᴰ·cast, Memᴰ·map, Memᴰ·of-map, [], _++_, _∷_, append-nil, map}
-use mathlib.Core.Option.{Option, Option·some-injective, none, some}
+use mathlib.Core.Bool.{Bool}
+use mathlib.Core.List.{List, List·Memᴰ, List·Memᴰ·eq-of-singleton, List·Memᴰ·head, List·Memᴰ·not-nil, Memᴰ·cast, Memᴰ·map, Memᴰ·of-map, [], _++_, _∷_, append-nil, map}
+use mathlib.Core.Option.{Option, Option·some-injective, some}
 use native.Mathlib.Decide.{decLt}
-use native.Mathlib.Nat.{le-of-suc-le-suc, not-suc-le-zero}
 use native.Mathlib.Omega.{arith}
 use Rattle.automata.specs.Counting.{Exactly, MoreThan}
-use Rattle.automata.specs.Exploration.{Reach, first, later}
+use Rattle.automata.specs.Exploration.{Reach, first, known, later}
 use Rattle.automata.specs.Lists.{Each, countFrom}
-use Rattle.automata.specs.Search.{Entry, Over, entries, firstOf, leads, met, nextEntries, nexts, origin, sameEntry, thisOr}
+use Rattle.automata.specs.Search.{Entry, Finds, Over, Passes, entries, firstOf, leads, met, nextEntries, nexts, origin, sameEntry}
+use Rattle.automata.specs.WordOrder.{Before}
 use Rattle.automata.proofs.CountingLaws.{counts-same, more-same}
-use Rattle.automata.proofs.ExplorationLaws.{Met, known-sound, ordered, shortest, walk-counts, walk-more}
-use Rattle.automata.proofs.ListLaws.{at-mem, countFrom-iff, map-map}
+use Rattle.automata.proofs.ExplorationLaws.{known-sound, walk-counts, walk-more}
+use Rattle.automata.proofs.FirstLaws.{First, at, firstOf-first, nowhere}
+use Rattle.automata.proofs.ListLaws.{at-mem, countFrom-iff, map-map, mem-at}
 use Rattle.automata.proofs.Mapped.{known-map}
+use Rattle.automata.proofs.OrderedExploration.{Sorted, Stands, earliest, ordered, sorted-at}
+use Rattle.automata.proofs.WordOrderLaws.{before-last, before-longer, before-more, before-not, before-trans}
 
 pub leads-snoc : {Q : Type 0} (δ : Q → ℕ → Q) (q : Q) (w : List ℕ) (x : ℕ) → leads δ q (w ++ x ∷ []) ≡ δ (leads δ q w) x
 unfolding leads
@@ -76,55 +80,121 @@ module _ {Q : Type 0} (same : Q → Q → Bool) (δ : Q → ℕ → Q) (a : ℕ)
   word-reached q v [] o r = rw append-nil r
   word-reached q v (x ∷ w) o r = rw append-snoc at (word-reached (δ q x) (v ++ x ∷ []) w (o .1) (later r ((next-iff (E q v) (E (δ q x) (v ++ x ∷ []))) .1 (x, o .0, refl))))
 
+  -- ---- in order
+  abbrev Sooner : Entry Q → Entry Q → Type 0
+  Sooner e f = Before (e .word) (f .word)
+
+  next-sorted : (e : Entry Q) → Sorted Sooner (nextEntries δ a e)
+  unfolding nextEntries countFrom
+  next-sorted e = go 0 a
+    where
+      at-letter : ℕ → Entry Q
+      at-letter x = E (δ (e .state) x) (e .word ++ x ∷ [])
+
+      go : (i n : ℕ) → Sorted Sooner (map at-letter (countFrom i n))
+      go i zero = tt
+      go i (suc n) = (
+        λ f m. let p = Memᴰ·of-map at-letter (countFrom (suc i) n) m in
+            rw (← (p .2)) (before-last (e .word) (e .word) i (p .0) (omega (arith, (countFrom-iff (suc i) n (p .0)) .0 (p .1)))),
+        go (suc i) n,
+      )
+
+  next-later : (e f : Entry Q) → List·Memᴰ f (nextEntries δ a e) → Sooner e f
+  next-later e f m = let p = (next-iff e f) .0 m in rw (p .2) (before-longer (e .word) (e .word) (p .0) (p .0))
+
+  next-before : (e f u v : Entry Q) → Sooner e f → List·Memᴰ u (nextEntries δ a e) → List·Memᴰ v (nextEntries δ a f) → Sooner u v
+  next-before e f u v b m k =
+      let p = (next-iff e u) .0 m in
+      let q = (next-iff f v) .0 k in
+      rw (p .2, q .2) (before-more (e .word) (f .word) (p .0) (q .0) b)
+
+  sooner-trans : (e f g : Entry Q) → Sooner e f → Sooner f g → Sooner e g
+  sooner-trans e f g = before-trans (e .word) (f .word) (g .word)
+
+  -- entries stand in the order of their words
+  pub entries-sorted : (n : ℕ) → Sorted Sooner (all n)
+  unfolding entries
+  entries-sorted n = (ordered (sameEntry same) (nextEntries δ a) (origin q₀) Sooner sooner-trans next-sorted next-later next-before n) .sorted
+
   module _ (eq : (p q : Q) → T (same p q) ↔ (p ≡ q)) where
-    pub record Short (n : ℕ) (w : List ℕ) : Type 0 where
+    -- the entry of the state that w leads to; w does not come before its word
+    pub record Early (n : ℕ) (w : List ℕ) : Type 0 where
       pub entry : Entry Q
-      pub place : ℕ
-      pub stands : getElem? (all n) place ≡ some entry
+      pub among : List·Memᴰ entry (all n)
       pub leads-there : entry .state ≡ leads δ q₀ w
-      pub short : length (entry .word) ≤ length w
+      pub order : (entry .word ≡ w) ⊎ Before (entry .word) w
 
-    next-size : (e f : Entry Q) → List·Memᴰ f (nextEntries δ a e) → length (f .word) ≡ suc (length (e .word))
-    next-size e f m = let p = (next-iff e f) .0 m in omega (arith, ap (λ (g : Entry Q). length (g .word)) (p .2), length-append (e .word) (p .0 ∷ []))
-
-    alike-next : (e f g : Entry Q) → T (sameEntry same e f) → List·Memᴰ g (nextEntries δ a e) → (g′ : Entry Q) × List·Memᴰ g′ (nextEntries δ a f) × T (sameEntry same g g′)
-    alike-next e f g t m =
+    alike-next : (e f g : Entry Q) → T (sameEntry same e f) → (f ≡ e) ⊎ Sooner f e → List·Memᴰ g (nextEntries δ a e)
+        → (g′ : Entry Q) × List·Memᴰ g′ (nextEntries δ a f) × T (sameEntry same g g′) × ((g′ ≡ g) ⊎ Sooner g′ g)
+    alike-next e f g t o m =
         let p = (next-iff e g) .0 m in
-        let s : e .state ≡ f .state = (eq _ _) .0 t in (
-          E (δ (f .state) (p .0)) (f .word ++ p .0 ∷ []),
-          (next-iff f _) .1 (p .0, p .1, refl),
+        let s : e .state ≡ f .state = (eq _ _) .0 t in
+        let f′ = E (δ (f .state) (p .0)) (f .word ++ p .0 ∷ []) in (
+          f′,
+          (next-iff f f′) .1 (p .0, p .1, refl),
           (eq _ _) .1 (ap (λ (e : Entry Q). e .state) (p .2) ∙ ap (λ (q : Q). δ q (p .0)) s),
+          ⊎-elim
+              (λ (k : f ≡ e). inl (ap (λ (d : Entry Q). E (δ (d .state) (p .0)) (d .word ++ p .0 ∷ [])) k ∙ sym (p .2)))
+              (λ k. inr (subst (λ (d : Entry Q). Before (f .word ++ p .0 ∷ []) (d .word)) (sym (p .2)) (before-more (f .word) (e .word) (p .0) (p .0) k)))
+              o,
         )
 
-    -- every word leads to a state that is met, and its entry's word is no longer
-    pub word-met : (n : ℕ) → length (all n) ≤ n → (w : List ℕ) → Over a w → Short n w
+    -- every word leads to a state that is met, and does not come before the word of its entry
+    pub word-met : (n : ℕ) → length (all n) ≤ n → (w : List ℕ) → Over a w → Early n w
     unfolding entries
-    word-met n h w o = record { entry = m .it; place = m .place; stands = m .stands; leads-there = sym ((eq _ _) .0 (m .alike)); short = m .short }
+    word-met n h w o = record {
+      entry = m .it;
+      among = m .among;
+      leads-there = sym ((eq _ _) .0 (m .alike));
+      order = ⊎-elim (λ (k : m .it ≡ E (leads δ q₀ w) w). inl (ap (λ (e : Entry Q). e .word) k)) (λ k. inr k) (m .order);
+    }
       where
-        m : Met (sameEntry same) (nextEntries δ a) (origin q₀) (λ (e : Entry Q). length (e .word)) next-size (λ e. (eq (e .state) (e .state)) .1 refl) n (E (leads δ q₀ w) w) (length w)
-        m = shortest (sameEntry same) (nextEntries δ a) (origin q₀) (λ (e : Entry Q). length (e .word)) next-size
+        m : Stands (sameEntry same) Sooner (E (leads δ q₀ w) w) (known (sameEntry same) (nextEntries δ a) (origin q₀ ∷ []) n)
+        m = earliest (sameEntry same) (nextEntries δ a) (origin q₀) Sooner sooner-trans next-sorted next-later next-before
             (λ e. (eq (e .state) (e .state)) .1 refl)
             (λ e f g p q. (eq (e .state) (g .state)) .1 ((eq (e .state) (f .state)) .0 p ∙ (eq (f .state) (g .state)) .0 q))
             alike-next
             n h (word-reached q₀ [] w o (first (List·Memᴰ·head refl)))
 
-    module _ (bad : Q → Bool) (n : ℕ) (fits : length (all n) ≤ n) where
-      -- if no state that is met is bad then no word leads to a bad one
-      pub none-bad : ((e : Entry Q) → List·Memᴰ e (all n) → ¬ T (bad (e .state))) → (w : List ℕ) → Over a w → ¬ T (bad (leads δ q₀ w))
-      none-bad h w o t = let s = word-met n fits w o in h (s .entry) (at-mem (all n) (s .place) (s .stands)) (rw (s .leads-there) t)
+    -- ---- the first entry that passes a test, whatever it tests of states
+    module _ (test : Q → Bool) (n : ℕ) (fits : length (all n) ≤ n) where
+      none-passes : ((e : Entry Q) → List·Memᴰ e (all n) → ¬ T (test (e .state))) → (w : List ℕ) → ¬ Passes δ a q₀ test w
+      none-passes h w p = let s = word-met n fits w (p .0) in h (s .entry) (s .among) (rw (s .leads-there) (p .1))
 
-      -- the first bad one has a shortest word that leads to a bad one
-      pub first-bad : (i : ℕ) (e : Entry Q) → getElem? (all n) i ≡ some e → ((j : ℕ) (f : Entry Q) → j < i → getElem? (all n) j ≡ some f → ¬ T (bad (f .state)))
-          → (w : List ℕ) → Over a w → T (bad (leads δ q₀ w)) → length (e .word) ≤ length w
-      unfolding entries
-      first-bad i e p h w o t = go (decLt (s .place) i)
+      first-passes : (i : ℕ) (e : Entry Q) → getElem? (all n) i ≡ some e → ((j : ℕ) (f : Entry Q) → j < i → getElem? (all n) j ≡ some f → ¬ T (test (f .state)))
+          → (w : List ℕ) → Passes δ a q₀ test w → ¬ Before w (e .word)
+      first-passes i e p h w r b = go (decLt place i) (decLt i place)
         where
-          s : Short n w
-          s = word-met n fits w o
+          s : Early n w
+          s = word-met n fits w (r .0)
 
-          go : Dec (s .place < i) → length (e .word) ≤ length w
-          go (yes l) = absurd (h (s .place) (s .entry) l (s .stands) (rw (s .leads-there) t))
-          go (no l) = omega (arith, s .short, (ordered (sameEntry same) (nextEntries δ a) (origin q₀) (λ (e : Entry Q). length (e .word)) next-size n) .rising i (s .place) e (s .entry) (omega arith) p (s .stands))
+          place : ℕ
+          place = mem-at (s .among) .0
+
+          stands : getElem? (all n) place ≡ some (s .entry)
+          stands = mem-at (s .among) .1
+
+          -- the entry's word comes before e's, as w does
+          sooner : Before (s .entry .word) (e .word)
+          sooner = ⊎-elim (λ (k : s .entry .word ≡ w). rw k b) (λ k. before-trans (s .entry .word) w (e .word) k b) (s .order)
+
+          go : Dec (place < i) → Dec (i < place) → ⊥
+          go (yes l) d = h place (s .entry) l stands (rw (s .leads-there) (r .1))
+          go (no l) (yes k) = before-not (e .word) (s .entry .word) (inr (sorted-at Sooner (all n) i place (entries-sorted n) k p stands)) sooner
+          go (no l) (no k) =
+              let here : place ≡ i = omega arith in
+              let same-one : s .entry ≡ e = Option·some-injective (s .entry) e (sym (rw here at stands) ∙ p) in
+              before-not (e .word) (s .entry .word) (inl (ap (λ (f : Entry Q). f .word) (sym same-one))) sooner
+
+      -- THE LAW OF SEARCH: its word is the first of those that lead to a state that passes
+      pub first-found : Finds δ a q₀ test (firstOf (λ e. test (e .state)) (all n))
+      first-found = go (firstOf (λ e. test (e .state)) (all n)) (firstOf-first (λ (e : Entry Q). test (e .state)) (all n))
+        where
+          go : (o : Option (Entry Q)) → First (λ (e : Entry Q). test (e .state)) (all n) o → Finds δ a q₀ test o
+          go o (nowhere h) = none-passes h
+          go o (at i e p t h) =
+              let u = entry-true n e (at-mem (all n) i p) in
+              (u .0, record { has = (u .1, rw (u .0) t); first = first-passes i e p h })
 
 module _ {Q : Type 0} (same : Q → Q → Bool) (eq : (p q : Q) → T (same p q) ↔ (p ≡ q)) (δ : Q → ℕ → Q) (a : ℕ) (q₀ : Q) where
   -- q is what some word leads to
@@ -168,22 +238,3 @@ module _ {Q : Type 0} (same : Q → Q → Bool) (eq : (p q : Q) → T (same p q)
   pub met-more : (L : ℕ) → L < length (met same δ a q₀ L) → MoreThan Led L
   unfolding met
   met-more L h = more-same reached (walk-more same eq (nexts δ a) (q₀ ∷ []) (λ y m. absurd (List·Memᴰ·not-nil m), tt) L h)
-
--- ---- the first that passes a test: there is none, or it stands at i and none before it passes
-pub data First {A : Type 0} (f : A → Bool) (l : List A) : Option A → Type 0 where
-  nowhere : ((x : A) → List·Memᴰ x l → ¬ T (f x)) → First f l none
-  at : (i : ℕ) (x : A) → getElem? l i ≡ some x → T (f x) → ((j : ℕ) (y : A) → j < i → getElem? l j ≡ some y → ¬ T (f y)) → First f l (some x)
-
-pub firstOf-first : {A : Type 0} (f : A → Bool) (l : List A) → First f l (firstOf f l)
-unfolding firstOf
-firstOf-first f [] = nowhere (λ x m t. List·Memᴰ·not-nil m)
-firstOf-first {A} f (x ∷ l) = go (f x) refl (firstOf f l) (firstOf-first f l)
-  where
-    go : (b : Bool) → f x ≡ b → (o : Option A) → First f l o → First f (x ∷ l) (thisOr b x o)
-    go true e o s = at 0 x refl (rw e tt) (λ j y h. absurd (not-suc-le-zero h))
-    go false e o (nowhere h) = nowhere (λ y m t. ⊎-elim (λ (q : y ≡ x). rw (ap f q ∙ e) at t) (λ (k : List·Memᴰ y l). h y k t) (List·Memᴰ·cases-cons m))
-    go false e o (at i z p t h) = at (suc i) z p t earlier
-      where
-        earlier : (j : ℕ) (y : A) → j < suc i → getElem? (x ∷ l) j ≡ some y → ¬ T (f y)
-        earlier zero y k q t = rw (ap f (sym (Option·some-injective x y q)) ∙ e) at t
-        earlier (suc j) y k q t = h j y (le-of-suc-le-suc k) q t

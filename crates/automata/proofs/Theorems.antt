@@ -18,22 +18,23 @@ use Rattle.automata.specs.Languages.{Concatenation, Intersection, Star, 
 use Rattle.automata.specs.Live.{count, in?}
 use Rattle.automata.specs.Pairs.{Right, SomePair, pairOf, pairs, verdict}
 use Rattle.automata.specs.Performing.{Move, perform, successors}
-use Rattle.automata.specs.Search.{Entry, Over, entries, leads}
+use Rattle.automata.specs.Search.{Entry, Finds, Over, entries, firstOf, leads}
 use Rattle.automata.specs.Unfolding.{acceptedBytes, configurations, leaving, liveCount, liveSet, plainArcs, sameConfiguration, unfolded}
+use Rattle.automata.specs.WordOrder.{Before, Earliest}
 use Rattle.automata.specs.Words.{Language, LiveAfter}
 use Rattle.automata.proofs.CountingLaws.{counts-unique, not-more}
 use Rattle.automata.proofs.ExampleLaws.{rows-hold}
 use Rattle.automata.proofs.ExplorationLaws.{known-distinct, known-sound, walk-counts, walk-more}
 use Rattle.automata.proofs.LanguageLaws.{closure-language, concatenation-language, intersection-language, unfolded-language, union-language}
-use Rattle.automata.proofs.ListLaws.{at-mem}
 use Rattle.automata.proofs.MembershipLaws.{acceptedBytes-iff, live-counts, liveCount-counts}
 use Rattle.automata.proofs.PairLaws.{pairs-more}
 use Rattle.automata.proofs.PlainArcLaws.{leaving-passing}
 use Rattle.automata.proofs.PairSets.{live-configuration, same-pair}
 use Rattle.automata.proofs.PerformingLaws.{perform-iff, successors-iff}
 use Rattle.automata.proofs.ReachLaws.{configurations-count, configurations-more}
-use Rattle.automata.proofs.SearchLaws.{entry-true, word-met}
+use Rattle.automata.proofs.SearchLaws.{entry-true, first-found, word-met}
 use Rattle.automata.proofs.VerdictLaws.{verdict-right}
+use Rattle.automata.proofs.WordOrderLaws.{before-not, earliest-one, earliest-shortest}
 
 -- ---- one step (PerformingLaws)
 -- Performing a list of operations is document 003's relation.
@@ -57,15 +58,24 @@ module _ {X : Type 0} (same : X → X → Bool) (eq : (x y : X) → T (same x y)
   pub exploring-more : (L : ℕ) → L < length (known same next start L) → MoreThan (Reach next start) L
   exploring-more = walk-more same eq next start d
 
--- Exploring by letters, in letter order, with the words by which states are met: each word leads to its state, and a word that
--- leads to a state is at least as long as the one by which that state was met (SearchLaws).
-pub searching : {Q : Type 0} (same : Q → Q → Bool) (δ : Q → ℕ → Q) (a : ℕ) (q : Q) → ((p r : Q) → T (same p r) ↔ (p ≡ r)) → (n : ℕ) → length (entries same δ a q n) ≤ n
-    → ((e : Entry Q) → List·Memᴰ e (entries same δ a q n) → leads δ q (e .word) ≡ e .state)
-    × ((w : List ℕ) → Over a w → (e : Entry Q) × List·Memᴰ e (entries same δ a q n) × (e .state ≡ leads δ q w) × (length (e .word) ≤ length w))
-searching same δ a q eq n fits = (
-  λ e m. entry-true same δ a q n e m .0,
-  λ w o. let s = word-met same δ a q eq n fits w o in (s .entry, at-mem (entries same δ a q n) (s .place) (s .stands), s .leads-there, s .short),
-)
+-- ---- exploring by letters, in letter order, with the words by which states are met: over any states, and any test of them (SearchLaws)
+module _ {Q : Type 0} (same : Q → Q → Bool) (eq : (p r : Q) → T (same p r) ↔ (p ≡ r)) (δ : Q → ℕ → Q) (a : ℕ) (q : Q) (n : ℕ) (fits : length (entries same δ a q n) ≤ n) where
+  -- Each word leads to its state, and no word that leads to a state comes before the one by which that state was met.
+  pub searching : ((e : Entry Q) → List·Memᴰ e (entries same δ a q n) → leads δ q (e .word) ≡ e .state)
+      × ((w : List ℕ) → Over a w → (e : Entry Q) × List·Memᴰ e (entries same δ a q n) × (e .state ≡ leads δ q w) × (¬ Before w (e .word)))
+  searching = (
+    λ e m. entry-true same δ a q n e m .0,
+    λ w o. let s = word-met same δ a q eq n fits w o in (s .entry, s .among, s .leads-there, before-not (s .entry .word) w (s .order)),
+  )
+
+  -- The first state met that passes a test was met by the first of all words that lead to such a state; where none was met, no word does.
+  pub searching-first : (test : Q → Bool) → Finds δ a q test (firstOf (λ e. test (e .state)) (entries same δ a q n))
+  searching-first test = first-found same δ a q eq test n fits
+
+-- ---- the order of words (WordOrderLaws)
+-- The first word that has a property is one word, and every word that has it is at least as long.
+pub ordering : {P : List ℕ → Type 0} (v : List ℕ) → Earliest Before P v → ((w : List ℕ) → Earliest Before P w → v ≡ w) × ((w : List ℕ) → P w → length v ≤ length w)
+ordering v e = (λ w f. earliest-one v w e f, earliest-shortest v e)
 
 -- ---- counting (CountingLaws)
 -- A number of things is one number, and exactly n things are not more than n.
@@ -125,7 +135,7 @@ closing = closure-language
 -- Within the limits the verdict is right: see `Right` in specs/Pairs.antt. Beyond P there are more pairs (refusal 23).
 pub comparing : (x y : Automaton) (L P : ℕ) → WellFormed x → WellFormed y → letters y ≡ letters x → length (configurations x L) ≤ L → length (configurations y L) ≤ L
     → length (pairs x y L P) ≤ P → Right x y L (verdict x y L P)
-comparing = verdict-right
+comparing x y L P wx wy = verdict-right x y L P (wx .lettered) (wy .lettered)
 
 pub comparing-more : (x y : Automaton) (L P : ℕ) → (P < length (pairs x y L P)) ↔ MoreThan (SomePair x y L) P
 comparing-more = pairs-more

@@ -5,27 +5,28 @@ use Prim.Native.Nat.{_<_, _≤_, ℕ}
 use lib.Dec.{T}
 use lib.ListN.{length}
 use mathlib.Core.Bool.{Bool, Bool·beq, cond, false, not, true}
-use mathlib.Core.List.{List, [], _∷_}
-use mathlib.Core.Option.{Option}
+use mathlib.Core.List.{List, List·Memᴰ, [], _∷_}
+use mathlib.Core.Option.{Option, none, some}
 use native.Mathlib.Decide.{decLt}
-use native.Mathlib.Omega.{arith}
-use Rattle.automata.specs.Automaton.{Accepts, Automaton, Configuration, Produces, Run, WellFormed, letters, silent, spell, stay}
-use Rattle.automata.specs.Pairs.{OneAccepts, Pair, Right, difference, differs, firstAccepts, judged, onward, pairOf, pairs, samePair, secondAccepts, shown, takerOf, verdict}
-use Rattle.automata.specs.Search.{Entry, Over, leads}
+use Rattle.automata.specs.Automaton.{Accepts, Arc, Automaton, Configuration, Produces, Run, letters, silent, spell, stay}
+use Rattle.automata.specs.Pairs.{OneAccepts, Pair, Right, differ, firstAccepts, firstPassing, judged, pairOf, pairs, takerOf, verdict}
+use Rattle.automata.specs.Search.{Entry, Over}
 use Rattle.automata.specs.Unfolding.{accepted, configurations}
-use Rattle.automata.proofs.ExplorationLaws.{shortest}
-use Rattle.automata.proofs.ListLaws.{at-mem}
-use Rattle.automata.proofs.PairLaws.{leads-pairOf, pairs-count, samePair-iff, shown-many}
-use Rattle.automata.proofs.SearchLaws.{First, at, entry-true, first-bad, firstOf-first, none-bad, nowhere}
+use Rattle.automata.proofs.PairLaws.{AnswersPass, FindsPair, first-passing, pairs-count}
 use Rattle.automata.proofs.UnfoldingLaws.{accepted-iff}
+use Rattle.automata.proofs.WordOrderLaws.{earliest-same}
 
--- a run spells letters of the automaton only
-run-over : (x : Automaton) → WellFormed x → {c d : Configuration} {w : List ℕ} → Run (Produces x) c w d → Over (letters x) w
+-- the arcs have letters of the automaton only
+abbrev pub Lettered : Automaton → Type 0
+Lettered x = (r : Arc) → List·Memᴰ r (x .arcs) → (l : ℕ) → r .letter ≡ some l → l < letters x
+
+-- and so a run spells such letters only
+run-over : (x : Automaton) → Lettered x → {c d : Configuration} {w : List ℕ} → Run (Produces x) c w d → Over (letters x) w
 run-over x v stay = tt
 run-over x v (silent m r) = run-over x v r
-run-over x v (spell {a = l} m r) = (v .lettered (m .arc) (m .listed) l (m .spells), run-over x v r)
+run-over x v (spell {a = l} m r) = (v (m .arc) (m .listed) l (m .spells), run-over x v r)
 
-pub accepts-over : (x : Automaton) → WellFormed x → (w : List ℕ) → Accepts x w → Over (letters x) w
+accepts-over : (x : Automaton) → Lettered x → (w : List ℕ) → Accepts x w → Over (letters x) w
 accepts-over x v w t = run-over x v (t .run)
 
 over-or-not : (a : ℕ) (w : List ℕ) → Over a w ⊎ (¬ Over a w)
@@ -63,57 +64,42 @@ module _ {A B : Type 0} where
   named true f o = ⊎-elim (λ p. inl (refl, p .0, p .1)) (λ p. absurd (p .0 (f .0 tt))) o
   named false f o = ⊎-elim (λ p. absurd (f .1 (p .0))) (λ p. inr (refl, p .0, p .1)) o
 
-module _ (x y : Automaton) (L P : ℕ) (wx : WellFormed x) (wy : WellFormed y) (shared : letters y ≡ letters x)
+module _ (x y : Automaton) (L P : ℕ) (lx : Lettered x) (ly : Lettered y) (shared : letters y ≡ letters x)
     (fits₁ : length (configurations x L) ≤ L) (fits₂ : length (configurations y L) ≤ L) (few : length (pairs x y L P) ≤ P) where
   -- a word that one of the two accepts is over the letters
   over-x : (w : List ℕ) → Accepts x w → Over (letters x) w
-  over-x w t = accepts-over x wx w t
+  over-x w t = accepts-over x lx w t
 
   over-y : (w : List ℕ) → Accepts y w → Over (letters x) w
-  over-y w t = subst (λ (a : ℕ). Over a w) shared (accepts-over y wy w t)
+  over-y w t = subst (λ (a : ℕ). Over a w) shared (accepts-over y ly w t)
 
-  -- the pair where a word leads differs just if exactly one accepts the word
-  differs-iff : (w : List ℕ) → T (differs x y L (leads (onward x y L) (pairOf x y L []) w)) ↔ OneAccepts x y w
-  unfolding differs firstAccepts secondAccepts accepted pairOf
-  differs-iff w = rw (leads-pairOf x y L w) (one-of (accepted x L w) (accepted y L w) (accepted-iff x L fits₁ w) (accepted-iff y L fits₂ w))
+  -- the answers to a word over the letters differ just if exactly one accepts it
+  one-accepts : (w : List ℕ) → AnswersPass x y L differ w ↔ OneAccepts x y w
+  one-accepts w =
+      let h = one-of (accepted x L w) (accepted y L w) (accepted-iff x L fits₁ w) (accepted-iff y L fits₂ w) in
+      (λ p. h .0 (p .1), λ o. (⊎-elim (λ q. over-x w (q .0)) (λ q. over-y w (q .1)) o, h .1 o))
 
-  same-words : ((w : List ℕ) → Over (letters x) w → ¬ T (differs x y L (leads (onward x y L) (pairOf x y L []) w))) → (w : List ℕ) → Accepts x w ↔ Accepts y w
-  unfolding differs firstAccepts secondAccepts accepted pairOf
+  same-words : ((w : List ℕ) → ¬ AnswersPass x y L differ w) → (w : List ℕ) → Accepts x w ↔ Accepts y w
   same-words h w = ⊎-elim
-      (λ o. both-or-neither (accepted x L w) (accepted y L w) (accepted-iff x L fits₁ w) (accepted-iff y L fits₂ w) (rw (leads-pairOf x y L w) at (h w o)))
+      (λ o. both-or-neither (accepted x L w) (accepted y L w) (accepted-iff x L fits₁ w) (accepted-iff y L fits₂ w) (λ t. h w (o, t)))
       (λ n. (λ t. absurd (n (over-x w t)), λ t. absurd (n (over-y w t))))
       (over-or-not (letters x) w)
 
-  abbrev bad : Entry Pair → Bool
-  bad e = differs x y L (e .state)
-
-  few-shown : length (shown x y L P) ≤ P
-  few-shown = omega (arith, shown-many x y L P)
-
-  -- DEMAND 3. Within the limits: told the same, every word of every length is accepted by both or by neither; told different,
-  -- exactly the named automaton accepts the word, and every word that exactly one accepts is at least as long. The number is that of the pairs.
+  -- DEMAND 3. Within the limits: told the same, every word of every length is accepted by both or by neither; told different, exactly
+  -- the named automaton accepts the word, and no word that exactly one accepts comes before it. The number is that of the pairs.
   pub verdict-right : Right x y L (verdict x y L P)
-  unfolding verdict judged difference shown
-  verdict-right = go (difference x y L P) (firstOf-first bad (shown x y L P))
+  unfolding verdict judged
+  verdict-right = go (firstPassing x y L differ P) (first-passing x y L differ P few)
     where
-      go : (o : Option (Entry Pair)) → First bad (shown x y L P) o → Right x y L (judged x y L (length (pairs x y L P)) o)
-      go o (nowhere h) = (
-        pairs-count x y L P few,
-        same-words (none-bad samePair (onward x y L) (letters x) (pairOf x y L []) samePair-iff (differs x y L) P few-shown h),
-      )
-      go o (at i e p t h) = (
+      go : (o : Option (Entry Pair)) → FindsPair x y L differ o → Right x y L (judged x y L (length (pairs x y L P)) o)
+      go none h = (pairs-count x y L P few, same-words h)
+      go (some e) h = (
         pairs-count x y L P few,
         record {
-          over = true-entry .1;
+          over = h .1 .has .0;
           by = subst (λ (k : ℕ). ((k ≡ 1) × Accepts x (e .word) × ¬ Accepts y (e .word)) ⊎ ((k ≡ 2) × ¬ Accepts x (e .word) × Accepts y (e .word)))
-              (sym who) (named (accepted x L (e .word)) (accepted-iff x L fits₁ (e .word)) ((differs-iff (e .word)) .0 (rw (true-entry .0) t)));
-          shortest = λ w o. first-bad samePair (onward x y L) (letters x) (pairOf x y L []) samePair-iff (differs x y L) P few-shown i e p h w
-              (⊎-elim (λ q. over-x w (q .0)) (λ q. over-y w (q .1)) o) ((differs-iff w) .1 o);
+              (sym (ap (takerOf x y L) (h .0) ∙ taker-of x y L (e .word)))
+              (named (accepted x L (e .word)) (accepted-iff x L fits₁ (e .word)) ((one-accepts (e .word)) .0 (h .1 .has)));
+          earliest = earliest-same (e .word) one-accepts (h .1);
         },
       )
-        where
-          true-entry : (leads (onward x y L) (pairOf x y L []) (e .word) ≡ e .state) × Over (letters x) (e .word)
-          true-entry = entry-true samePair (onward x y L) (letters x) (pairOf x y L []) P e (at-mem (shown x y L P) i p)
-
-          who : takerOf x y L (e .state) ≡ oneTwo (accepted x L (e .word))
-          who = ap (takerOf x y L) (sym (true-entry .0) ∙ leads-pairOf x y L (e .word)) ∙ taker-of x y L (e .word)

@@ -1,5 +1,5 @@
 -- WordLaws: words as bytes: what they stand for, and how properties of words carry over to them.
-use mathlib.Core.Path.{_∙_, _≡_, ap, refl, subst, sym}
+use mathlib.Core.Path.{_∙_, _≡_, ap, ap₂, refl, subst, sym}
 use mathlib.Core.Logic.{_↔_, _⊎_, inl, inr, ⊎-elim}
 use Prim.Native.Nat.{ℕ}
 use lib.Dec.{eqb, ltb→lt, lt→ltb}
@@ -10,9 +10,11 @@ use native.Mathlib.Omega.{arith}
 use Rattle.automata.specs.Counting.{Apart}
 use Rattle.automata.specs.Exploration.{first}
 use Rattle.automata.specs.Languages.{Concatenation, Star, more, nothing}
-use Rattle.automata.specs.Words.{Spelled, Spells, letterWith, spelling}
+use Rattle.automata.specs.WordOrder.{BeforeIn}
+use Rattle.automata.specs.Words.{Spelled, Spells, letterWith, place, places, spelling}
 use Rattle.automata.proofs.ListLaws.{at-mem, eqb-iff, getElem?-lt, only-iff}
 use Rattle.automata.proofs.NumberLaws.{apart-distinct, number-at, number-found, one-number}
+use Rattle.automata.proofs.WordOrderLaws.{before-one}
 
 -- ---- the numbers that are computed are those that the bytes stand for
 module _ (alphabet : List ℕ) (apart : Apart alphabet) where
@@ -47,6 +49,31 @@ module _ (alphabet : List ℕ) (apart : Apart alphabet) where
 
   one-spelling : (s v w : List ℕ) → Spells alphabet s v → Spells alphabet s w → v ≡ w
   one-spelling s v w p q = Option·some-injective v w (sym ((spelling-iff s v) .1 p) ∙ (spelling-iff s w) .1 q)
+
+  -- the places of a word's letters are their numbers
+  pub spells-places : (s v : List ℕ) → Spells alphabet s v → places alphabet s ≡ v
+  spells-places [] [] p = refl
+  spells-places [] (k ∷ v) p = absurd p
+  spells-places (byte ∷ s) [] p = absurd p
+  spells-places (byte ∷ s) (k ∷ v) p =
+      ap₂ (λ (i : ℕ) (w : List ℕ). i ∷ w)
+      (one-number eqb eqb-iff alphabet (place alphabet byte) k (apart-distinct eqb eqb-iff alphabet apart) (number-at eqb eqb-iff (at-mem alphabet k (p .0))) (p .0))
+      (spells-places s v (p .1))
+
+  -- two words of letters of which none comes before the other are one
+  pub spelled-one : (s t v w : List ℕ) → Spells alphabet s v → Spells alphabet t w → ¬ BeforeIn alphabet s t → ¬ BeforeIn alphabet t s → s ≡ t
+  spelled-one s t v w p q h k =
+      let e : v ≡ w = before-one v w (λ b. h (rw (spells-places s v p, spells-places t w q) b)) (λ b. k (rw (spells-places s v p, spells-places t w q) b)) in
+      same-bytes s t v p (rw e q)
+    where
+      same-bytes : (s t v : List ℕ) → Spells alphabet s v → Spells alphabet t v → s ≡ t
+      same-bytes [] [] v p q = refl
+      same-bytes [] (y ∷ t) [] p q = absurd q
+      same-bytes [] (y ∷ t) (k ∷ v) p q = absurd p
+      same-bytes (x ∷ s) [] [] p q = absurd p
+      same-bytes (x ∷ s) [] (k ∷ v) p q = absurd q
+      same-bytes (x ∷ s) (y ∷ t) [] p q = absurd p
+      same-bytes (x ∷ s) (y ∷ t) (k ∷ v) p q = ap₂ (λ (i : ℕ) (w : List ℕ). i ∷ w) (Option·some-injective x y (sym (p .0) ∙ q .0)) (same-bytes s t v (p .1) (q .1))
 
   -- both properties hold of one word
   pub spelled-both : (P Q : List ℕ → Type 0) (s : List ℕ) → Spelled alphabet (λ w. P w × Q w) s ↔ (Spelled alphabet P s × Spelled alphabet Q s)

@@ -1,4 +1,5 @@
--- Examples: document 01's automata T, V, K and S, and its table of checked words and automata ('Checked slips and books').
+-- Examples: document 01's automata T, V, K and S, and its table of checked words and automata ('Checked slips and books'); document 02's
+-- example of the word that is shown (change 1).
 -- proofs/ExampleLaws.antt has the one theorem over the rows.
 use Prim.Native.Nat.{ℕ}
 use mathlib.Core.Path.{_≡_}
@@ -9,7 +10,8 @@ use lib.ListN.{length}
 use Rattle.automata.specs.Counting.{Exactly}
 use Rattle.automata.specs.Automaton.{Op, reads, writes, Arc, Automaton, Reachable}
 use Rattle.automata.specs.Words.{Language}
-use Rattle.automata.specs.Unfolding.{plainArcs, readZero}
+use Rattle.automata.specs.Pairs.{Right, Verdict, different, same}
+use Rattle.automata.specs.Unfolding.{plainArcs, readZero, unfolded}
 use Rattle.automata.specs.Joins.{arcFrom, concatenation, intersection, closure}
 
 -- the letters' bytes
@@ -35,20 +37,27 @@ m = 109
 abbrev arc : ℕ → ℕ → ℕ → List Op → Arc
 arc s l t ops = arcFrom s (some l) t ops
 
--- the first four arcs of T, which V has too, and then the rest
-abbrev arcsOfV : List Arc → List Arc
-arcsOfV rest = arc 0 0 1 (writes 1 1 ∷ []) ∷ arc 0 1 1 (writes 1 2 ∷ []) ∷ arc 1 2 1 readZero ∷ arc 1 0 2 (reads 1 1 ∷ []) ∷ rest
-
-abbrev withArcs : List Arc → Automaton
-withArcs arcs = record { alphabet = c ∷ e ∷ m ∷ []; registers = 2; symbols = 3; finals = false ∷ false ∷ true ∷ []; arcs = arcs }
+-- any number of m after the first letter, which register 1 keeps; and then the arcs that close the word
+abbrev closedBy : List Arc → Automaton
+closedBy arcs = record {
+  alphabet = c ∷ e ∷ m ∷ [];
+  registers = 2;
+  symbols = 3;
+  finals = false ∷ false ∷ true ∷ [];
+  arcs = arc 0 0 1 (writes 1 1 ∷ []) ∷ arc 0 1 1 (writes 1 2 ∷ []) ∷ arc 1 2 1 readZero ∷ arcs;
+}
 
 -- T: a word that ends as it began, with any number of m between
 unfoldable pub automatonT : Automaton
-automatonT = withArcs (arcsOfV (arc 1 1 2 (reads 1 2 ∷ []) ∷ []))
+automatonT = closedBy (arc 1 0 2 (reads 1 1 ∷ []) ∷ arc 1 1 2 (reads 1 2 ∷ []) ∷ [])
 
 -- V: T without its last arc
 unfoldable pub automatonV : Automaton
-automatonV = withArcs (arcsOfV [])
+automatonV = closedBy (arc 1 0 2 (reads 1 1 ∷ []) ∷ [])
+
+-- U: T without agreement at the end: its closing arcs read register 0 for 0
+unfoldable pub automatonU : Automaton
+automatonU = closedBy (arc 1 0 2 readZero ∷ arc 1 1 2 readZero ∷ [])
 
 -- K: one letter, which a register lets through once
 unfoldable pub automatonK : Automaton
@@ -63,17 +72,19 @@ automatonS = record { alphabet = a ∷ b ∷ []; registers = 1; symbols = 1; fin
 pub data Row : Type 0 where
   accepts rejects : (x : Automaton) (word : List ℕ) → Row
   reaches unfolds-to : (x : Automaton) (many : ℕ) → Row
+  compare-to : (x y : Automaton) (v : Verdict) → Row
 
--- what a row says; L is the limit on configurations
+-- what a row says; L is the limit on configurations. A verdict has its word by the numbers of the letters
 abbrev pub Holds : ℕ → Row → Type 0
 Holds L (accepts x w) = Language x w
 Holds L (rejects x w) = ¬ Language x w
 Holds L (reaches x n) = Exactly (Reachable x) n
 Holds L (unfolds-to x n) = length (plainArcs x L) ≡ n
+Holds L (compare-to x y v) = Right x y L v
 
--- document 01's checked words and automata
+-- document 01's checked words and automata; last, document 02's example: the first difference of U and T is ce, and never ec
 unfoldable pub rows : List Row
-unfolding automatonT automatonV automatonK automatonS concatenation intersection closure
+unfolding automatonT automatonV automatonU automatonK automatonS concatenation intersection closure unfolded
 rows = accepts automatonT (c ∷ c ∷ [])
     ∷ accepts automatonT (c ∷ m ∷ m ∷ c ∷ [])
     ∷ accepts automatonT (e ∷ m ∷ e ∷ [])
@@ -87,4 +98,7 @@ rows = accepts automatonT (c ∷ c ∷ [])
     ∷ accepts (closure automatonS) []
     ∷ rejects (closure automatonS) (a ∷ [])
     ∷ accepts (intersection automatonT automatonV) (c ∷ c ∷ [])
-    ∷ rejects (intersection automatonT automatonV) (e ∷ e ∷ []) ∷ []
+    ∷ rejects (intersection automatonT automatonV) (e ∷ e ∷ [])
+    ∷ compare-to automatonT (unfolded automatonT 256) (same 6)
+    ∷ compare-to automatonT automatonV (different 6 1 (1 ∷ 1 ∷ []))
+    ∷ compare-to automatonU automatonT (different 8 1 (0 ∷ 1 ∷ [])) ∷ []

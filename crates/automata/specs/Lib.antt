@@ -3,6 +3,7 @@ pub mod Counting
 pub mod Automaton
 pub mod Exploration
 pub mod Words
+pub mod WordOrder
 pub mod Performing
 pub mod Live
 pub mod Unfolding

@@ -1,9 +1,10 @@
 -- Pairs: two automata compared by the pairs of their live sets, and what makes an answer right.
--- Renders document 01, 'Comparing', and demand 3. L is the limit on configurations, P the limit on pairs; document 01's are
--- 256 and 512. Words are given by their letters' numbers; the two automata are to have the same alphabet.
+-- Renders document 01, 'Comparing', and demand 3; and change 1 of document 02, by which word is shown. L is the limit on configurations,
+-- P the limit on pairs; document 01's are 256 and 512. Words are given by their letters' numbers; the two automata are to have the same
+-- alphabet.
 use mathlib.Core.Path.{_≡_}
 use mathlib.Core.Logic.{_↔_, _⊎_}
-use Prim.Native.Nat.{ℕ, _≤_}
+use Prim.Native.Nat.{ℕ}
 use mathlib.Core.List.{List, []}
 use mathlib.Core.Option.{Option, none, some}
 use mathlib.Core.Bool.{Bool, _&&_, not, Bool·beq, cond}
@@ -14,6 +15,7 @@ use Rattle.automata.specs.Counting.{Exactly}
 use Rattle.automata.specs.Live.{byLetter, meets}
 use Rattle.automata.specs.Unfolding.{configurations, plainArcs, finalSet, liveSet}
 use Rattle.automata.specs.Search.{Over, Entry, met, entries, firstOf}
+use Rattle.automata.specs.WordOrder.{Before, Earliest}
 
 -- the live set of a word in the first automaton, and in the second
 pub record Pair : Type 0 where
@@ -49,10 +51,10 @@ module _ (x y : Automaton) (L : ℕ) where
   unfolding finalSet meets
   secondAccepts p = meets (p .right) (finalSet y (configurations y L))
 
-  -- exactly one of the two accepts the words of the pair
-  unfoldable pub differs : Pair → Bool
+  -- do the answers of the two to the words of the pair pass the test?
+  unfoldable pub answersPass : (test : Bool → Bool → Bool) → Pair → Bool
   unfolding firstAccepts secondAccepts
-  differs p = not (Bool·beq (firstAccepts p) (secondAccepts p))
+  answersPass test p = test (firstAccepts p) (secondAccepts p)
 
   -- the pairs in number order, once n of them have been walked
   unfoldable pub pairs : ℕ → List Pair
@@ -64,12 +66,16 @@ module _ (x y : Automaton) (L : ℕ) where
   unfolding samePair onward pairOf entries
   shown n = entries samePair onward (letters x) (pairOf []) n
 
-  -- the first pair that differs, with its word
-  unfoldable pub difference : ℕ → Option (Entry Pair)
-  unfolding firstOf differs shown
-  difference n = firstOf (λ e. differs (e .state)) (shown n)
+  -- the first pair whose answers pass the test, with its word
+  unfoldable pub firstPassing : (test : Bool → Bool → Bool) → ℕ → Option (Entry Pair)
+  unfolding firstOf answersPass shown
+  firstPassing test n = firstOf (λ e. answersPass test (e .state)) (shown n)
 
 -- ---- the answer
+-- exactly one of the two accepts
+abbrev pub differ : Bool → Bool → Bool
+differ a b = not (Bool·beq a b)
+
 -- same, with the number of pairs; or different, with that number, the automaton (1 or 2) that accepts the word, and the word
 pub data Verdict : Type 0 where
   same : (count : ℕ) → Verdict
@@ -89,8 +95,8 @@ module _ (x y : Automaton) (L : ℕ) where
 
   -- the verdict, once P pairs have been walked
   unfoldable pub verdict : ℕ → Verdict
-  unfolding judged pairs difference
-  verdict P = judged (length (pairs x y L P)) (difference x y L P)
+  unfolding judged pairs firstPassing
+  verdict P = judged (length (pairs x y L P)) (firstPassing x y L differ P)
 
 -- ---- what makes it right, with no algorithm in sight
 -- exactly one of the two accepts the word
@@ -104,11 +110,11 @@ module _ (x y : Automaton) (L : ℕ) where
     pub over : Over (letters x) word
     pub is : pairOf x y L word ≡ p
 
--- exactly the automaton `taker` accepts the word v, and every word that exactly one accepts is at least as long
+-- exactly the automaton `taker` accepts the word v, which is the first of the words that exactly one accepts
 pub record Shows (x y : Automaton) (taker : ℕ) (v : List ℕ) : Type 0 where
   pub over : Over (letters x) v
   pub by : ((taker ≡ 1) × Accepts x v × ¬ Accepts y v) ⊎ ((taker ≡ 2) × ¬ Accepts x v × Accepts y v)
-  pub shortest : (w : List ℕ) → OneAccepts x y w → length v ≤ length w
+  pub earliest : Earliest Before (OneAccepts x y) v
 
 -- the number is that of the distinct pairs; told the same, every word of every length is accepted by both or by neither
 abbrev pub Right : Automaton → Automaton → ℕ → Verdict → Type 0

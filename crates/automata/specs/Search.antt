@@ -1,11 +1,15 @@
 -- Search: what words lead to, from a state by δ over the letters below a: the states met, and with each a word that leads there.
--- An exploration (Exploration) whose targets are taken letter by letter, so the word met first is a shortest one.
+-- An exploration (Exploration) whose targets are taken in letter order, so the word met first is the first of all that lead there, in the
+-- order of words (WordOrder). Over any type of states.
+use mathlib.Core.Path.{_≡_}
 use Prim.Native.Nat.{ℕ, _<_}
 use mathlib.Core.List.{List, [], _∷_, _++_, map}
 use mathlib.Core.Option.{Option, none, some}
 use mathlib.Core.Bool.{Bool, true, false}
 use Rattle.automata.specs.Lists.{countFrom}
+use lib.Dec.{T}
 use Rattle.automata.specs.Exploration.{known}
+use Rattle.automata.specs.WordOrder.{Before, Earliest}
 
 -- a word over the letters below a
 abbrev pub Over : ℕ → List ℕ → Type 0
@@ -60,3 +64,14 @@ thisOr false x o = o
 unfoldable pub firstOf : {A : Type 0} → (A → Bool) → List A → Option A
 firstOf f [] = none
 firstOf f (x ∷ l) = thisOr (f x) x (firstOf f l)
+
+-- ---- what makes the first entry that passes a test right, with no algorithm in sight
+module _ {Q : Type 0} (δ : Q → ℕ → Q) (a : ℕ) (q₀ : Q) (test : Q → Bool) where
+  -- the word is over the letters below a, and leads to a state that passes the test
+  abbrev pub Passes : List ℕ → Type 0
+  Passes w = Over a w × T (test (leads δ q₀ w))
+
+  -- there is none, and no word passes; or its word leads to its state, and is the first of the words that pass
+  abbrev pub Finds : Option (Entry Q) → Type 0
+  Finds none = (w : List ℕ) → ¬ Passes w
+  Finds (some e) = (leads δ q₀ (e .word) ≡ e .state) × Earliest Before Passes (e .word)

@@ -2,7 +2,7 @@
 -- A byte that is no letter stands for nothing, so a word that has one is accepted by no run.
 use mathlib.Core.Path.{_≡_}
 use Prim.Native.Nat.{ℕ}
-use mathlib.Core.List.{List, [], _∷_}
+use mathlib.Core.List.{List, [], _∷_, map}
 use mathlib.Core.Option.{Option, some, Option·map, bind}
 use lib.ListN.{length, getElem?}
 use lib.Dec.{eqb, ltb}
@@ -18,10 +18,18 @@ Spells alphabet (byte ∷ s) [] = ⊥
 Spells alphabet (byte ∷ s) (k ∷ w) = (getElem? alphabet k ≡ some byte) × Spells alphabet s w
 
 -- ---- the numbers, computed
+-- the place of the letter with this byte in the letter list, which is its number; the number of letters where there is none
+abbrev pub place : (alphabet : List ℕ) → ℕ → ℕ
+place alphabet byte = number eqb byte alphabet
+
+-- the places of a word's letters
+abbrev pub places : (alphabet word : List ℕ) → List ℕ
+places alphabet word = map (place alphabet) word
+
 -- the number of the letter with this byte
 unfoldable pub letterWith : List ℕ → ℕ → Option ℕ
 unfolding number
-letterWith alphabet byte = only (ltb (number eqb byte alphabet) (length alphabet)) (number eqb byte alphabet)
+letterWith alphabet byte = only (ltb (place alphabet byte) (length alphabet)) (place alphabet byte)
 
 -- the numbers of the letters that the bytes stand for, or none where a byte is no letter
 unfoldable pub spelling : List ℕ → List ℕ → Option (List ℕ)

@@ -1,6 +1,6 @@
 -- DecidingLaws: the table of pairs that searching leaves is the definition's, its first difference is the verdict's, and so the answer is right.
 use mathlib.Core.Path.{_∙_, _≡_, ap, ap₂, refl, subst, sym}
-use mathlib.Core.Bool.{Bool, Bool·beq, false, not, true}
+use mathlib.Core.Bool.{Bool, cond, false, not, true}
 use mathlib.Core.List.{List, _++_, map}
 use mathlib.Core.Option.{Option, Option·some-injective, none, some}
 use Prim.Native.Nat.{ℕ, _≤_, _<_}
@@ -9,7 +9,7 @@ use lib.Dec.{T, eqb}
 use lib.ListN.{drop, getD, getElem?, length}
 use Rattle.automata.specs.Automaton.{Automaton, letters}
 use Rattle.automata.specs.Live.{meets}
-use Rattle.automata.specs.Pairs.{Pair, difference, different, differs, firstAccepts, judged, onward, pairOf, pairs, samePair, secondAccepts, shown, takerOf, verdict}
+use Rattle.automata.specs.Pairs.{Pair, answersPass, differ, different, firstAccepts, firstPassing, judged, onward, pairOf, pairs, samePair, secondAccepts, shown, takerOf, verdict}
 use Rattle.automata.specs.Search.{Entry, entries, firstOf}
 use Rattle.automata.specs.Unfolding.{configurations, finalSet, liveSet, plainArcs}
 use Rattle.automata.proofs.Laws.{First, at, firstOf-first, getElem?-lt, getElem?-some, nowhere, shown-many}
@@ -26,10 +26,12 @@ use Rattle.compare.specs.Loading.{Comparable}
 use Rattle.compare.specs.declared.loading.Standing.{Standing}
 use Rattle.compare_promise.specs.declared.Comparison.the-variants.{Different, Refused, Same}
 use Rattle.compare.proofs.Verdicts.{answers-different, answers-many, answers-same}
-use Rattle.compare_promise.proofs.Laws.{oneTwo}
+
+abbrev oneTwo : Bool → ℕ
+oneTwo t = cond t 1 2
 
 -- which of two facts holds alone, if one does
-alone-differs : (a b : Bool) → not (eqb (alone a b) 0) ≡ not (Bool·beq a b)
+alone-differs : (a b : Bool) → not (eqb (alone a b) 0) ≡ differ a b
 unfolding alone
 alone-differs true true = refl
 alone-differs true false = refl
@@ -95,20 +97,20 @@ module _ {x y : Automaton} {L : ℕ} {w₀ : List ℕ} {one two : Standing} {byt
   finals₂ : G ≡ finalSet y (configurations y L)
   finals₂ = ap (λ (n : ℕ). view n (two .finals)) (sym (c .second .many)) ∙ c .second .final
 
-  differs-is : (u : Pair) → differsBy F G u ≡ differs x y L u
-  unfolding takerBy differs firstAccepts secondAccepts
+  differs-is : (u : Pair) → differsBy F G u ≡ answersPass x y L differ u
+  unfolding takerBy answersPass firstAccepts secondAccepts
   differs-is u =
       alone-differs (meets (u .left) F) (meets (u .right) G)
-      ∙ ap₂ (λ (a b : Bool). not (Bool·beq a b)) (ap (meets (u .left)) finals₁) (ap (meets (u .right)) finals₂)
+      ∙ ap₂ differ (ap (meets (u .left)) finals₁) (ap (meets (u .right)) finals₂)
 
   taker-is : (u : Pair) → T (differsBy F G u) → takerBy F G u ≡ takerOf x y L u
   unfolding takerBy takerOf firstAccepts
   taker-is u h = alone-taker (meets (u .left) F) (meets (u .right) G) h ∙ ap (λ (S : List Bool). oneTwo (meets (u .left) S)) finals₁
 
-  difference-is : difference x y L P ≡ firstOf (λ (e : Entry Pair). differsBy F G (e .state)) es
-  unfolding difference
+  difference-is : firstPassing x y L differ P ≡ firstOf (λ (e : Entry Pair). differsBy F G (e .state)) es
+  unfolding firstPassing
   difference-is =
-      ap (λ (l : List (Entry Pair)). firstOf (λ (e : Entry Pair). differs x y L (e .state)) l) shown-is
+      ap (λ (l : List (Entry Pair)). firstOf (λ (e : Entry Pair). answersPass x y L differ (e .state)) l) shown-is
       ∙ ap (λ (h : Entry Pair → Bool). firstOf h es) (λ i e. (sym (differs-is (e .state))) i)
 
   -- ---- the answers
@@ -132,7 +134,7 @@ module _ {x y : Automaton} {L : ℕ} {w₀ : List ℕ} {one two : Standing} {byt
         → new ≡ map (λ (l : ℕ). getD bytes l 0) (wordOf w i) ++ drop size old → Answers L P (countRefusals L P x y) x y old new (Different n taker size)
     unfolding verdict judged
     answer-different a old new taker size low tree told long put =
-        answers-different x y L P (c .formed₁) (c .formed₂) (c .shared) (c .first .ended) (c .second .ended) few old new n taker size (wordOf w i) is long
+        answers-different x y L P old new n taker size (wordOf w i) few is long
         (put ∙ ap (λ (b : List ℕ). map (λ (l : ℕ). getD b l 0) (wordOf w i) ++ drop size old) (c .spelled))
       where
         e : Entry Pair

@@ -3,7 +3,6 @@
 use mathlib.Core.Path.{_∙_, _≡_, ap}
 use mathlib.Core.List.{List}
 use Prim.Native.Nat.{ℕ, _≤_}
-use native.Mathlib.Omega.{arith}
 use Rattle.automata.specs.Automaton.{letters}
 use Rattle.automata.specs.Live.{PlainArc}
 use Rattle.automata.specs.Unfolding.{configurations, finalSet, plainArcs}
@@ -17,7 +16,7 @@ use Rattle.word_sets.specs.Sets.{view}
 use Rattle.table_sets.specs.Stepping.{Tells}
 use Rattle.table_sets.proofs.Laws.{SameBlock, tells-kept}
 use Rattle.table.specs.Standing.{Stands}
-use Rattle.table.proofs.Laws.{letters-few, stands-few, stands-many, stands-tells}
+use Rattle.table.proofs.Laws.{letters-few, stands-many, stands-tells}
 use Rattle.compare.specs.Loading.{Prepared}
 use Rattle.compare.specs.declared.loading.Standing.{Standing}
 
@@ -27,11 +26,10 @@ pub prepared : {file w w' : List ℕ} {c : Counts} {block left : Block} (f : Lis
     → ((letters : ℕ) (arcs : List PlainArc) → letters ≤ 64 → Tells letters arcs w block → Tells letters arcs w' left) → Prepared (automatonOf file) 256 w' (record { block = left; finals = f })
 prepared {file} {c = c} f e s few final same told = record {
   many = same ∙ stands-many s;
-  ended = omega (arith, stands-few s, stands-many s);
   tells = told (letters (automatonOf file)) (plainArcs (automatonOf file) 256) (letters-few file c e) (stands-tells s few);
   final = ap (λ (n : ℕ). view n f) same ∙ final;
 }
 
 -- words elsewhere were written
 pub prepared-kept : {x : Automaton} {L : ℕ} {w w' : List ℕ} {s : Standing} → SameBlock (s .block .base) w w' → Prepared x L w s → Prepared x L w' s
-prepared-kept b p = record { many = p .many; ended = p .ended; tells = tells-kept b (p .tells); final = p .final }
+prepared-kept b p = record { many = p .many; tells = tells-kept b (p .tells); final = p .final }

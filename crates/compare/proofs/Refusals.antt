@@ -9,6 +9,7 @@ use borrow.Author.Tests.{le-ltb, lt-ltb}
 use lib.Dec.{ltb}
 use lib.ListN.{length}
 use Rattle.automata.specs.Automaton.{Automaton}
+use Rattle.automata.specs.Pairs.{verdict}
 use Rattle.automata.specs.Unfolding.{configurations, plainArcs}
 use Rattle.table_explore.specs.Explores.{exploredOf}
 use Rattle.table_configurations.specs.declared.Explored.the-variants.{Tables, TooMany}
@@ -21,8 +22,7 @@ use Rattle.file_pair.proofs.Laws.{files-passed, files-refused}
 use Rattle.table.proofs.Laws.{explored-few, explored-many}
 use Rattle.compare.specs.Answers.{Answers}
 use Rattle.compare.specs.Loading.{limitOf}
-use Rattle.compare_promise.specs.Compares.{Compares}
-use Rattle.compare_promise.specs.Comparing.{comparedAt, comparisonOf, countRefusals, limitRefusals, refusals, tableRefusals}
+use Rattle.compare_promise.specs.Comparing.{answerOf, bufferOf, comparisonOf, countRefusals, limitRefusals, refusals, shownWord, tableRefusals}
 use Rattle.compare_promise.specs.declared.Comparison.{Comparison}
 use Rattle.compare_promise.specs.declared.Comparison.the-variants.{Refused}
 
@@ -30,11 +30,11 @@ module _ {L P : ℕ} {x y : Automaton} {left : List (Bool × ℕ × ℕ)} where
   -- a test that does not hold is passed, one that holds gives its refusal
   pub passed : {old new : List ℕ} {r : Comparison} (b : Bool) (n k : ℕ) → b ≡ false → Answers L P left x y old new r → Answers L P ((b, n, k) ∷ left) x y old new r
   unfolding unlessRefused
-  passed b n k e a = record { word = a .word; answer = rw e (a .answer); buffer = a .buffer; shown = a .shown }
+  passed b n k e a = record { answer = rw e (a .answer); buffer = a .buffer }
 
   pub stopped : (b : Bool) (n k : ℕ) (old : List ℕ) → b ≡ true → Answers L P ((b, n, k) ∷ left) x y old old (Refused n k)
   unfolding unlessRefused
-  stopped b n k old e = record { word = []; answer = rw e; buffer = refl; shown = tt }
+  stopped b n k old e = record { answer = rw e; buffer = refl }
 
 -- ---- 21 and 22 of the automaton z
 module _ (z : Automaton) (L M : ℕ) where
@@ -62,8 +62,8 @@ module _ (z : Automaton) (L M : ℕ) where
     limit-stopped old h = go (ltb L (length (configurations z L))) (ltb M (length (plainArcs z L))) is
       where
         go : (s t : Bool) → n ≡ unlessRefused (λ n b. n) ((s, 21, 1) ∷ (t, 22, 1) ∷ []) 0 → Answers L P ((s, 21, b) ∷ (t, 22, b) ∷ left) x y old old (Refused n b)
-        go true t e = record { word = []; answer = ap (λ (m : ℕ). Refused m b) e; buffer = refl; shown = tt }
-        go false true e = record { word = []; answer = ap (λ (m : ℕ). Refused m b) e; buffer = refl; shown = tt }
+        go true t e = record { answer = ap (λ (m : ℕ). Refused m b) e; buffer = refl }
+        go false true e = record { answer = ap (λ (m : ℕ). Refused m b) e; buffer = refl }
         go false false e = absurd (h e)
 
     pub limit-passed : {old new : List ℕ} {r : Comparison} → n ≡ 0 → Answers L P left x y old new r → Answers L P (limitRefusals L M z b ++ left) x y old new r
@@ -73,7 +73,7 @@ module _ (z : Automaton) (L M : ℕ) where
         go : (s t : Bool) → n ≡ unlessRefused (λ n b. n) ((s, 21, 1) ∷ (t, 22, 1) ∷ []) 0 → Answers L P ((s, 21, b) ∷ (t, 22, b) ∷ left) x y old new r
         go true t e = absurd (omega arith)
         go false true e = absurd (omega arith)
-        go false false e = record { word = a .word; answer = a .answer; buffer = a .buffer; shown = a .shown }
+        go false false e = record { answer = a .answer; buffer = a .buffer }
 
 -- ---- 21 and 22 of the first, then of the second, at document 01's limits
 module _ {x y : Automaton} {n : ℕ} (one : n ≡ limitOf 256 2048 x) where
@@ -104,27 +104,27 @@ module _ (first second : List ℕ) where
 
   -- the files: 1 to 9 of the first, of the second, and 10
   pub files-fault : (old : List ℕ) {n b : ℕ} → filesOf first second ≡ Fault n b → Answers 256 512 behindMemory one two old old (Refused n b)
-  files-fault old e = record { word = []; answer = sym (files-refused first second Refused (tableRefusals 256 2048 512 one two) (comparedAt 256 512 one two []) e); buffer = refl; shown = tt }
+  files-fault old e = record { answer = sym (files-refused first second Refused (tableRefusals 256 2048 512 one two) (answerOf (verdict one two 256 512)) e); buffer = refl }
 
   pub files-both : {old new : List ℕ} {r : Comparison} {c d : Counts} → filesOf first second ≡ Both c d → Answers 256 512 (tableRefusals 256 2048 512 one two) one two old new r → Answers 256 512 behindMemory one two old new r
-  files-both e a = record {
-    word = a .word;
-    answer = a .answer ∙ sym (files-passed first second Refused (tableRefusals 256 2048 512 one two) (comparedAt 256 512 one two (a .word)) e);
-    buffer = a .buffer;
-    shown = a .shown;
-  }
+  files-both e a = record { answer = a .answer ∙ sym (files-passed first second Refused (tableRefusals 256 2048 512 one two) (answerOf (verdict one two 256 512)) e); buffer = a .buffer }
 
   module _ (words : ℕ) (old : List ℕ) where
-    opened : {new : List ℕ} {r : Comparison} → Answers 256 512 ((ltb words 8192 || ltb (length old) 512, 24, 0) ∷ behindMemory) one two old new r → Compares first second words old new r
-    unfolding comparisonOf refusals pairRefusals
-    opened a = record { word = a .word; answer = a .answer; buffer = a .buffer; shown = a .shown }
+    -- the contract
+    abbrev Whole : (new : List ℕ) → Comparison → Type 0
+    Whole new r = (r ≡ comparisonOf first second words (length old)) × (new ≡ bufferOf r (shownWord first second) old)
+
+    opened : {new : List ℕ} {r : Comparison} → Answers 256 512 ((ltb words 8192 || ltb (length old) 512, 24, 0) ∷ behindMemory) one two old new r → Whole new r
+    unfolding comparisonOf shownWord refusals pairRefusals
+    opened a = (a .answer, a .buffer)
 
     -- 24
-    pub words-short : words < 8192 → Compares first second words old old (Refused 24 0)
+    pub words-short : words < 8192 → Whole old (Refused 24 0)
     words-short h = opened (stopped _ 24 0 old (rw (lt-ltb words 8192 h)))
 
-    pub buffer-short : 8192 ≤ words → length old < 512 → Compares first second words old old (Refused 24 0)
+    pub buffer-short : 8192 ≤ words → length old < 512 → Whole old (Refused 24 0)
     buffer-short g h = opened (stopped _ 24 0 old (rw (le-ltb words 8192 g, lt-ltb (length old) 512 h)))
 
-    pub compares : {new : List ℕ} {r : Comparison} → 8192 ≤ words → 512 ≤ length old → Answers 256 512 behindMemory one two old new r → Compares first second words old new r
-    compares g h a = opened (passed _ 24 0 (rw (le-ltb words 8192 g, le-ltb (length old) 512 h)) a)
+    -- it is passed
+    pub memory-passed : {new : List ℕ} {r : Comparison} → 8192 ≤ words → 512 ≤ length old → Answers 256 512 behindMemory one two old new r → Whole new r
+    memory-passed g h a = opened (passed _ 24 0 (rw (le-ltb words 8192 g, le-ltb (length old) 512 h)) a)

@@ -4,20 +4,18 @@ use mathlib.Core.Bool.{Bool}
 use mathlib.Core.List.{List}
 use Prim.Native.Nat.{ℕ}
 use Rattle.automata.specs.Automaton.{Automaton}
+use Rattle.automata.specs.Pairs.{verdict}
 use Rattle.format.specs.Decoding.{automatonOf}
 use Rattle.format.specs.Refusals.{unlessRefused}
-use Rattle.compare_promise.specs.Compares.{ShownBy}
-use Rattle.compare_promise.specs.Comparing.{bufferOf, comparedAt}
+use Rattle.compare_promise.specs.Comparing.{answerOf, bufferOf, bytesIn}
 use Rattle.compare_promise.specs.declared.Comparison.{Comparison}
 use Rattle.compare_promise.specs.declared.Comparison.the-variants.{Refused}
 
--- r is the answer for x and y where these refusals are left, and the buffer `old` becomes `new`: the contract of comparing (Compares)
--- from some refusal on
+-- r is the answer for x and y where these refusals are left, and the buffer `old` becomes `new`: the contract of comparing from some
+-- refusal on
 pub record Answers (L P : ℕ) (left : List (Bool × ℕ × ℕ)) (x y : Automaton) (old new : List ℕ) (r : Comparison) : Type 0 where
-  pub word : List ℕ
-  pub answer : r ≡ unlessRefused Refused left (comparedAt L P x y word)
-  pub buffer : new ≡ bufferOf r word old
-  pub shown : ShownBy x y word r
+  pub answer : r ≡ unlessRefused Refused left (answerOf (verdict x y L P))
+  pub buffer : new ≡ bufferOf r (bytesIn (x .alphabet) (verdict x y L P)) old
 
 -- the same of the automata in two files, at document 01's limits
 abbrev pub FilesAnswer : (left : Automaton → Automaton → List (Bool × ℕ × ℕ)) (first second old new : List ℕ) → Comparison → Type 0

@@ -1,9 +1,9 @@
 -- Loading: what the words hold of an automaton that is loaded, and of two that are ready to be compared, by the table's face.
 use mathlib.Core.Path.{_≡_}
 use mathlib.Core.List.{List}
-use Prim.Native.Nat.{ℕ, _≤_}
+use Prim.Native.Nat.{ℕ}
 use lib.ListN.{length}
-use Rattle.automata.specs.Automaton.{Automaton, WellFormed, letters}
+use Rattle.automata.specs.Automaton.{Automaton, letters}
 use Rattle.automata.specs.Unfolding.{configurations, finalSet, plainArcs}
 use Rattle.format.specs.Decoding.{automatonOf}
 use Rattle.format.specs.Refusals.{unlessRefused}
@@ -13,10 +13,9 @@ use Rattle.compare_promise.specs.Comparing.{limitRefusals}
 use Rattle.compare.specs.declared.loading.Standing.{Standing}
 use Rattle.compare.specs.declared.loading.Loaded.{Loaded}
 
--- the block tells the plain arcs of x, which has at most L configurations, and the set is that of its final ones
+-- the block tells the plain arcs of x between its configurations, numbered up to L of them, and the set is that of its final ones
 pub record Prepared (x : Automaton) (L : ℕ) (w : List ℕ) (s : Standing) : Type 0 where
   pub many : s .block .count ≡ length (configurations x L)
-  pub ended : length (configurations x L) ≤ L
   pub tells : Tells (letters x) (plainArcs x L) w (s .block)
   pub final : view (s .block .count) (s .finals) ≡ finalSet x (configurations x L)
 
@@ -34,7 +33,5 @@ pub record Loads (file : List ℕ) (M : ℕ) (w : List ℕ) (base : ℕ) (r : Lo
 pub record Comparable (x y : Automaton) (L : ℕ) (w : List ℕ) (one two : Standing) (letters : List ℕ) : Type 0 where
   pub first : Prepared x L w one
   pub second : Prepared y L w two
-  pub formed₁ : WellFormed x
-  pub formed₂ : WellFormed y
   pub shared : y .alphabet ≡ x .alphabet
   pub spelled : letters ≡ x .alphabet

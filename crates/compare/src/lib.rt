@@ -1,10 +1,9 @@
-// compare: are two automata one rule? (document 01, 'Comparing')
+// compare: do two automata accept the same words? (document 01, 'Comparing')
 ghost use mathlib.Core.Path.{_≡_};
 ghost use Prim.Native.Nat.{_≤_};
 ghost use lib.ListN.{length};
 ghost use Rattle.file_pair.specs.Pair.{Joinable};
-ghost use Rattle.compare_promise.specs.Comparing.{tableRefusals};
-ghost use Rattle.compare_promise.specs.Compares.{Compares};
+ghost use Rattle.compare_promise.specs.Comparing.{bufferOf, comparisonOf, shownWord, tableRefusals};
 pub use compare_promise::Comparison;
 ghost use Rattle.compare.specs.Answers.{FilesAnswer};
 use deciding::decide;
@@ -51,17 +50,18 @@ fn compare_files(
     decide(w, one.standing, two.standing, &first[12..end], word)
 }
 
-// Do the automata of two files accept the same words? Where they do not, a shortest word that exactly one accepts stands at the front
-// of the word buffer, and what was lent behind it is as it was; else all of the buffer is. Refuses, in this order: fewer than 8,192
-// working words or a buffer of fewer than 512 bytes, 24; a fault of the first file, 1 to 9; of the second; other letters, 10; more than
-// 256 configurations of the first, 21, or more than 2,048 plain arcs, 22; the same of the second; more than 512 pairs, 23. Two things
-// are free: which of several shortest words is shown, and what the working words hold afterwards.
+// Do the automata of two files accept the same words? Where they do not, the first word that exactly one accepts stands at the front of
+// the word buffer, and what was lent behind it is as it was; else all of the buffer is. Words come in order by their length, and then by
+// the places of their letters in the letter list. Refuses, in this order: fewer than 8,192 working words or a buffer of fewer than 512
+// bytes, 24; a fault of the first file, 1 to 9; of the second; other letters, 10; more than 256 configurations of the first, 21, or more
+// than 2,048 plain arcs, 22; the same of the second; more than 512 pairs, 23. One thing is free: what the working words hold afterwards.
 // Cost: b + k * o + k * k + n * (p + a) steps, where b is the number of bytes of the files, o that of their arcs and operations, k that of
 // their configurations, p that of their plain arcs, a that of the letters and n that of the pairs; and as many more as pairs, or
 // configurations, have the key of one that is looked up. Nothing is allocated.
 pub fn compare(first: &[u8], second: &[u8], work: &mut [u64], word: &mut [u8]) -> Comparison
     ensures same { λ _. ⌜ length (now (work .exit)) ≡ length (now (work .entry)) ⌝ }
-    ensures compares { λ r. ⌜ Compares (now (first .entry)) (now (second .entry)) (length (now (work .entry))) (now (word .entry)) (now (word .exit)) r ⌝ }
+    ensures answer { λ r. ⌜ r ≡ comparisonOf (now (first .entry)) (now (second .entry)) (length (now (work .entry))) (length (now (word .entry))) ⌝ }
+    ensures shown { λ r. ⌜ now (word .exit) ≡ bufferOf r (shownWord (now (first .entry)) (now (second .entry))) (now (word .entry)) ⌝ }
 {
     if work.len() < 8192 {
         return Comparison::Refused {

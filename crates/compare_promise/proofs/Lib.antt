@@ -1,4 +1,4 @@
 pub mod ShownBytes
 pub mod Refusals
 pub mod Promise
-pub mod Laws
+pub mod Settled

@@ -1,25 +1,27 @@
 -- Promise: what the contract of comparing says of the bytes handed in (demand 3, and the exact condition of each refusal).
 use mathlib.Core.Path.{_≡_, refl, sym, ap, _∙_, subst}
-use mathlib.Core.Logic.{_↔_, inl, inr, ⊎-elim}
-use mathlib.Core.Bool.{Bool, cond}
+use mathlib.Core.Logic.{_↔_, _⊎_, inl, inr, ⊎-elim}
+use mathlib.Core.Bool.{Bool}
 use mathlib.Core.List.{List}
 use Prim.Native.Nat.{ℕ, _<_, _≤_}
 use native.Mathlib.Omega.{arith}
-use lib.ListN.{drop, length, length-append, take}
+use lib.ListN.{drop, length, length-append, length-map, take}
 use lib.Seq.{drop-at, take-at}
 use Rattle.automata.specs.Automaton.{Automaton, WellFormed}
 use Rattle.automata.specs.Pairs.{Right, Verdict, different, pairOf, pairs, same, verdict}
-use Rattle.automata.specs.Unfolding.{acceptedBytes, configurations, plainArcs}
-use Rattle.automata.proofs.Laws.{comparing, comparing-more, pairing, reaching-more, same-language}
+use Rattle.automata.specs.Unfolding.{configurations, plainArcs}
+use Rattle.automata.specs.WordOrder.{BeforeIn, Earliest}
+use Rattle.automata.specs.Words.{Language, place, places}
+use Rattle.automata.proofs.Laws.{comparing, comparing-more, not-before-long, pairing, reaching-more, same-language}
 use Rattle.format.specs.Decoding.{automatonOf}
 use Rattle.format.specs.Refusals.{FirstHolds, faultOf, unlessRefused}
 use Rattle.file_laws.proofs.Laws.{NoneHolds, Outcome, at-least, first-exactly, first-some, no-fault, none-first, refused-or-not, same-letters, valid-automaton}
-use Rattle.compare_promise.specs.Comparing.{answerAt, bufferOf, comparedAt, comparisonOf, refusals, told}
-use Rattle.compare_promise.specs.Compares.{Compares, Shown, ShownBy}
-use Rattle.compare_promise.specs.Promised.{Equivalent, Premises, Promised, SameEnds, conditions}
+use Rattle.compare_promise.specs.Comparing.{answerOf, bufferOf, bytesIn, comparisonOf, refusals, shownWord, told}
+use Rattle.compare_promise.specs.Promised.{Either, Equivalent, Premises, Promised, SameEnds, conditions}
 use Rattle.compare_promise.specs.declared.Comparison.{Comparison}
 use Rattle.compare_promise.specs.declared.Comparison.the-variants.{Refused}
 use Rattle.compare_promise.proofs.Refusals.{refusals-decide}
+use Rattle.compare_promise.proofs.ShownBytes.{shown-by, shown-first}
 
 -- ---- the premises of demand 3 are that no condition of a refusal holds
 module _ (first second : List ℕ) (words buffer : ℕ) where
@@ -57,15 +59,15 @@ module _ (first second : List ℕ) (words buffer : ℕ) where
       }
 
 -- ---- within the limits the verdict is right, of the automata in the files
+pub well-formed : (file : List ℕ) → faultOf file ≡ 0 → WellFormed (automatonOf file)
+well-formed file z = let v = no-fault file z in valid-automaton file (v .0) (v .1) .0
+
 module _ (first second : List ℕ) (words buffer : ℕ) (p : Premises first second words buffer) where
   abbrev x : Automaton
   x = automatonOf first
 
   abbrev y : Automaton
   y = automatonOf second
-
-  well-formed : (file : List ℕ) → faultOf file ≡ 0 → WellFormed (automatonOf file)
-  well-formed file z = let v = no-fault file z in valid-automaton file (v .0) (v .1) .0
 
   few₁ : length (configurations x 256) ≤ 256
   few₁ = at-least 256 (length (configurations x 256)) (λ h. p .configurations₁ (reaching-more x 256 .0 h))
@@ -80,9 +82,10 @@ module _ (first second : List ℕ) (words buffer : ℕ) (p : Premises first seco
   right = comparing x y 256 512 (well-formed first (p .valid₁)) (well-formed second (p .valid₂)) (ap length (sym (p .same-letters))) few₁ few₂
       (at-least 512 (length (pairs x y 256 512)) (λ h. p .few-pairs (comparing-more x y 256 512 .0 h)))
 
--- one word that exactly one accepts, and the two aren't one rule
-not-one-rule : (x y : Automaton) (taker : ℕ) (word : List ℕ) → Shown x y taker word → ¬ Equivalent x y
-not-one-rule x y taker word s one = ⊎-elim (λ h. h .2 (one word .0 (h .1))) (λ h. h .1 (one word .1 (h .2))) (s .by)
+-- one word that exactly one accepts, and the two are not equivalent
+not-equivalent : (x y : Automaton) (taker : ℕ) (word : List ℕ) → ((taker ≡ 1) × Language x word × ¬ Language y word) ⊎ ((taker ≡ 2) × Language y word × ¬ Language x word) → ¬ Equivalent x y
+not-equivalent x y taker word (inl h) one = h .2 (one word .0 (h .1))
+not-equivalent x y taker word (inr h) one = h .2 (one word .1 (h .1))
 
 -- ---- the whole answer
 module _ (first second : List ℕ) (words : ℕ) (old new : List ℕ) where
@@ -92,23 +95,21 @@ module _ (first second : List ℕ) (words : ℕ) (old new : List ℕ) where
   abbrev x₂ : Automaton
   x₂ = automatonOf second
 
-  abbrev takerOf : Automaton → List ℕ → ℕ
-  takerOf x word = cond (acceptedBytes x 256 word) 1 2
-
   abbrev cs : List (Type 0 × ℕ × ℕ)
   cs = conditions first second words (length old)
 
   refused : (n b : ℕ) → 0 < n → FirstHolds cs n b → new ≡ old → Promised first second words old new (told (Refused n b))
-  refused n b pos f e = record {
+  refused n b pos f unchanged = record {
     answers = (λ z. absurd (omega arith), λ p. absurd (none p));
     same = (λ t. absurd t, λ p. none (p .0));
     different = (λ t. absurd t, λ p. none (p .0));
     shows = λ t. absurd t;
     shortest = λ t. absurd t;
+    earliest = λ t. absurd t;
     counts = λ p. absurd (none p);
     paired = λ p. absurd (none p);
     refuses = first-exactly cs f;
-    behind = e;
+    behind = unchanged;
     none-shown = λ _. refl;
     whole = omega arith;
   }
@@ -117,68 +118,88 @@ module _ (first second : List ℕ) (words : ℕ) (old new : List ℕ) where
       none p = first-some cs n b pos f (none-of first second words (length old) p)
 
   -- the answer of a right verdict
-  answered : (v : Verdict) → Right x₁ x₂ 256 v → Premises first second words (length old) → (taker : ℕ) (word : List ℕ)
-      → new ≡ bufferOf (answerAt v taker (length word)) word old → ShownBy x₁ x₂ word (answerAt v taker (length word)) → Promised first second words old new (told (answerAt v taker (length word)))
-  answered (same n) r p taker word e s = record {
+  answered : (v : Verdict) → Right x₁ x₂ 256 v → Premises first second words (length old) → new ≡ bufferOf (answerOf v) (bytesIn (x₁ .alphabet) v) old
+      → Promised first second words old new (told (answerOf v))
+  answered (same n) r p lent = record {
     answers = (λ _. p, λ _. refl);
     same = (λ _. (p, one), λ _. tt);
     different = (λ t. absurd t, λ q. q .1 one);
     shows = λ t. absurd t;
     shortest = λ t. absurd t;
+    earliest = λ t. absurd t;
     counts = λ _. r .0;
     paired = paired-by-runs first second words (length old);
     refuses = first-exactly cs (none-first cs (none-of first second words (length old) p));
-    behind = e;
+    behind = lent;
     none-shown = λ _. refl;
     whole = omega arith;
   }
     where
       one : Equivalent x₁ x₂
       one = same-language x₁ x₂ (sym (p .same-letters)) (r .1)
-  answered (different n k v) r p taker word e s = record {
+  answered (different n taker v) r p e = record {
     answers = (λ _. p, λ _. refl);
-    same = (λ t. absurd t, λ q. not-one-rule x₁ x₂ taker word s (q .1));
-    different = (λ _. (p, not-one-rule x₁ x₂ taker word s), λ _. tt);
-    shows = λ _. rw (ap (take (length word)) e ∙ take-at word _ (length word) refl) (⊎-elim (λ h. inl h) (λ h. inr (h .0, h .2, h .1)) (s .by));
-    shortest = λ _ other o. ⊎-elim (λ h. omega (arith, s .shortest other (inl h))) (λ h. omega (arith, s .shortest other (inr (h .1, h .0)))) o;
+    same = (λ t. absurd t, λ q. not-equivalent x₁ x₂ taker word by (q .1));
+    different = (λ _. (p, not-equivalent x₁ x₂ taker word by), λ _. tt);
+    shows = λ _. rw front by;
+    shortest = λ _ other o. omega (arith, at-least-as-long other o);
+    earliest = λ _. rw front first-word;
     counts = λ _. r .0;
     paired = paired-by-runs first second words (length old);
     refuses = first-exactly cs (none-first cs (none-of first second words (length old) p));
-    behind = ap (drop (length word)) e ∙ drop-at word (drop (length word) old) (length word) refl;
+    behind = back;
     none-shown = λ h. absurd (h tt);
-    whole = omega (arith, ap length e, length-append word (drop (length word) old));
+    whole = omega (arith, ap length e, length-append word (drop (length word) old), long);
   }
+    where
+      formed₁ : WellFormed x₁
+      formed₁ = well-formed first (p .valid₁)
 
-  opened : (word : List ℕ) → comparisonOf first second words (length old) word
-      ≡ unlessRefused Refused (refusals 256 2048 512 first second words (length old)) (answerAt (verdict x₁ x₂ 256 512) (takerOf x₁ word) (length word))
-  unfolding comparisonOf comparedAt
-  opened word = refl
+      formed₂ : WellFormed x₂
+      formed₂ = well-formed second (p .valid₂)
 
-  -- THE PROMISE of comparing.
-  pub comparing-promised : (r : Comparison) → Compares first second words old new r → Promised first second words old new (told r)
-  comparing-promised r c = either (refused-or-not Refused answer all cs (refusals-decide first second words (length old)))
+      word : List ℕ
+      word = bytesIn (x₁ .alphabet) (different n taker v)
+
+      long : length word ≡ length v
+      long = length-map v _
+
+      front : take (length v) new ≡ word
+      front = ap (take (length v)) e ∙ take-at word (drop (length word) old) (length v) long
+
+      by : ((taker ≡ 1) × Language x₁ word × ¬ Language x₂ word) ⊎ ((taker ≡ 2) × Language x₂ word × ¬ Language x₁ word)
+      by = shown-by x₁ x₂ formed₁ formed₂ (sym (p .same-letters)) taker v (r .1)
+
+      first-word : Earliest (BeforeIn (x₁ .alphabet)) (λ other. Either (Language x₁ other) (Language x₂ other)) word
+      first-word = shown-first x₁ x₂ formed₁ formed₂ (sym (p .same-letters)) taker v (r .1)
+
+      at-least-as-long : (other : List ℕ) → Either (Language x₁ other) (Language x₂ other) → length v ≤ length other
+      at-least-as-long other o =
+          let h = not-before-long (places (x₁ .alphabet) word) (places (x₁ .alphabet) other) (first-word .first other o) in
+          omega (arith, h, long, length-map other (place (x₁ .alphabet)), length-map word (place (x₁ .alphabet)))
+
+      back : drop (length v) new ≡ drop (length v) old
+      back = ap (drop (length v)) e ∙ drop-at word (drop (length word) old) (length v) long ∙ ap (λ (k : ℕ). drop k old) long
+
+  -- THE PROMISE of comparing, from the equations of its contract.
+  pub comparing-promised : (r : Comparison) → r ≡ comparisonOf first second words (length old) → new ≡ bufferOf r (shownWord first second) old → Promised first second words old new (told r)
+  unfolding comparisonOf shownWord
+  comparing-promised r a b = either (refused-or-not Refused answer all cs (refusals-decide first second words (length old)))
     where
       all : List (Bool × ℕ × ℕ)
       all = refusals 256 2048 512 first second words (length old)
 
-      taker : ℕ
-      taker = takerOf x₁ (c .word)
-
       answer : Comparison
-      answer = answerAt (verdict x₁ x₂ 256 512) taker (length (c .word))
+      answer = answerOf (verdict x₁ x₂ 256 512)
 
-      whole-answer : r ≡ unlessRefused Refused all answer
-      whole-answer = c .answer ∙ opened (c .word)
-
-      left : (a : Comparison) → r ≡ a → new ≡ bufferOf a (c .word) old
-      left a e = subst (λ (a : Comparison). new ≡ bufferOf a (c .word) old) e (c .buffer)
+      left : (c : Comparison) → r ≡ c → new ≡ bufferOf c (shownWord first second) old
+      left c e = subst (λ (c : Comparison). new ≡ bufferOf c (shownWord first second) old) e b
 
       either : Outcome Refused answer cs (unlessRefused Refused all answer) → Promised first second words old new (told r)
       either (inl h) =
-          let e = whole-answer ∙ h .1 in
+          let e = a ∙ h .1 in
           let p = premises-of first second words (length old) (h .0) in
-          subst (λ (a : Comparison). Promised first second words old new (told a)) (sym e)
-          (answered (verdict x₁ x₂ 256 512) (right first second words (length old) p) p taker (c .word) (left answer e) (subst (ShownBy x₁ x₂ (c .word)) e (c .shown)))
+          subst (λ (c : Comparison). Promised first second words old new (told c)) (sym e) (answered (verdict x₁ x₂ 256 512) (right first second words (length old) p) p (left answer e))
       either (inr h) =
-          let e = whole-answer ∙ h .4 in
-          subst (λ (a : Comparison). Promised first second words old new (told a)) (sym e) (refused (h .0) (h .1) (h .2) (h .3) (left (Refused (h .0) (h .1)) e))
+          let e = a ∙ h .4 in
+          subst (λ (c : Comparison). Promised first second words old new (told c)) (sym e) (refused (h .0) (h .1) (h .2) (h .3) (left (Refused (h .0) (h .1)) e))

@@ -1,14 +1,14 @@
--- Comparing: what comparing answers of two files, the number of working words, the size of the buffer for the shown word, and that
--- word (document 01, 'Comparing' and the order of refusals). Words are lists of bytes.
-use mathlib.Core.Bool.{Bool, cond, false, not, true, _||_}
-use mathlib.Core.List.{List, [], _∷_, _++_}
+-- Comparing: what comparing answers of two files, the number of working words and the size of the buffer for the shown word, and what
+-- it leaves in that buffer (document 01, 'Comparing' and the order of refusals; document 02, change 1). Words are lists of bytes.
+use mathlib.Core.Bool.{Bool, false, not, true, _||_}
+use mathlib.Core.List.{List, [], _∷_, _++_, map}
 use Prim.Native.Nat.{ℕ}
 use lib.Dec.{eqb, ltb}
-use lib.ListN.{drop, length}
+use lib.ListN.{drop, getD, length}
 use Rattle.automata.specs.Automaton.{Automaton}
 use Rattle.automata.specs.Lists.{sameBy}
 use Rattle.automata.specs.Pairs.{Verdict, different, pairs, same, verdict}
-use Rattle.automata.specs.Unfolding.{acceptedBytes, configurations, plainArcs}
+use Rattle.automata.specs.Unfolding.{configurations, plainArcs}
 use Rattle.format.specs.Decoding.{automatonOf}
 use Rattle.format.specs.Refusals.{faultOf, unlessRefused}
 use Rattle.compare_promise.specs.declared.Comparison.{Comparison}
@@ -44,19 +44,25 @@ refusals L M P first second words buffer =
     ∷ tableRefusals L M P (automatonOf first) (automatonOf second)
 
 -- ---- the answer
--- same or different, and the number of pairs, are the verdict's; the automaton that accepts the shown word and its length are the word's
-abbrev pub answerAt : Verdict → (taker size : ℕ) → Comparison
-answerAt (same n) taker size = Same n
-answerAt (different n k v) taker size = Different n taker size
+-- that of a verdict, whose word it tells by its length
+abbrev pub answerOf : Verdict → Comparison
+answerOf (same n) = Same n
+answerOf (different n taker v) = Different n taker (length v)
 
-unfoldable pub comparedAt : (L P : ℕ) → Automaton → Automaton → List ℕ → Comparison
-comparedAt L P x y word = answerAt (verdict x y L P) (cond (acceptedBytes x L word) 1 2) (length word)
+-- the word of a verdict in the bytes of the letters; none where there is no difference
+abbrev pub bytesIn : (alphabet : List ℕ) → Verdict → List ℕ
+bytesIn alphabet (same n) = []
+bytesIn alphabet (different n taker v) = map (λ (l : ℕ). getD alphabet l 0) v
 
 -- the whole answer, at document 01's limits
-unfoldable pub comparisonOf : (first second : List ℕ) (words buffer : ℕ) (word : List ℕ) → Comparison
-unfolding refusals unlessRefused comparedAt
-comparisonOf first second words buffer word =
-    unlessRefused Refused (refusals 256 2048 512 first second words buffer) (comparedAt 256 512 (automatonOf first) (automatonOf second) word)
+unfoldable pub comparisonOf : (first second : List ℕ) (words buffer : ℕ) → Comparison
+unfolding refusals unlessRefused
+comparisonOf first second words buffer =
+    unlessRefused Refused (refusals 256 2048 512 first second words buffer) (answerOf (verdict (automatonOf first) (automatonOf second) 256 512))
+
+-- the word that is shown, in the bytes of the first file's letters
+unfoldable pub shownWord : (first second : List ℕ) → List ℕ
+shownWord first second = bytesIn (automatonOf first .alphabet) (verdict (automatonOf first) (automatonOf second) 256 512)
 
 -- what stands in the buffer afterwards: the shown word and then what was lent behind it; where no word is shown, what was lent
 abbrev pub bufferOf : Comparison → (word old : List ℕ) → List ℕ

@@ -1,6 +1,7 @@
--- Promised: what is promised of comparing (demand 3, and the exact condition of each refusal). Words, languages and configurations are
--- those of runs; plain arcs (22) and pairs of live sets (23 and the count) are document 01's, over numbered configurations, and `paired`
--- says by runs what one pair is. Nothing here is the contract's but `Told`: a contract that says less does not give this promise.
+-- Promised: what is promised of comparing (demand 3 and the exact condition of each refusal; which word is shown, change 1 of document
+-- 02). Words, languages and configurations are those of runs; plain arcs (22) and pairs of live sets (23 and the count) are document 01's,
+-- over numbered configurations, and `paired` says by runs what one pair is. Nothing here is the contract's but `Told`: a contract that
+-- says less does not give this promise. And a promise that says less leaves something open, which proofs/Settled.antt rules out.
 use mathlib.Core.Path.{_≡_}
 use mathlib.Core.Logic.{_↔_, _⊎_, _≢_}
 use mathlib.Core.List.{List, [], _∷_}
@@ -11,6 +12,7 @@ use Rattle.automata.specs.Automaton.{Automaton, Configuration, Produces, Reacha
 use Rattle.automata.specs.Counting.{Exactly, MoreThan}
 use Rattle.automata.specs.Pairs.{SomePair, pairOf}
 use Rattle.automata.specs.Unfolding.{plainArcs}
+use Rattle.automata.specs.WordOrder.{BeforeIn, Earliest}
 use Rattle.automata.specs.Words.{Language}
 use Rattle.format.specs.Decoding.{automatonOf}
 use Rattle.format.specs.Refusals.{FirstHolds, faultOf}
@@ -65,15 +67,17 @@ SameEnds x v w = (c : Configuration) → Run (Produces x) (start x) v c ↔ Run 
 pub record Promised (first second : List ℕ) (words : ℕ) (old new : List ℕ) (t : Told) : Type 0 where
   -- nothing is refused just under the premises
   pub answers : (t .number ≡ 0) ↔ Premises first second words (length old)
-  -- told the same just if the two are one rule, else told different
+  -- told the same just if the two are equivalent, else told different
   pub same : T (t .same) ↔ (Premises first second words (length old) × Equivalent (automatonOf first) (automatonOf second))
   pub different : T (t .different) ↔ (Premises first second words (length old) × ¬ Equivalent (automatonOf first) (automatonOf second))
   -- told different, exactly the named automaton accepts the word at the buffer's front
   pub shows : T (t .different) → let word = take (t .size) new in
       ((t .taker ≡ 1) × Language (automatonOf first) word × ¬ Language (automatonOf second) word)
       ⊎ ((t .taker ≡ 2) × Language (automatonOf second) word × ¬ Language (automatonOf first) word)
-  -- and every word that exactly one accepts is at least as long
+  -- every word that exactly one accepts is at least as long
   pub shortest : T (t .different) → (other : List ℕ) → Either (Language (automatonOf first) other) (Language (automatonOf second) other) → t .size ≤ length other
+  -- and it is the first of them: none that is as long has the lower letter where the two first differ, by the letters' places in the list
+  pub earliest : T (t .different) → Earliest (BeforeIn (automatonOf first .alphabet)) (λ other. Either (Language (automatonOf first) other) (Language (automatonOf second) other)) (take (t .size) new)
   -- told either, the number is that of the distinct pairs of live sets over all words of the letters
   pub counts : Premises first second words (length old) → Exactly (SomePair (automatonOf first) (automatonOf second) 256) (t .pairs)
   -- two words have one pair just if runs that spell them end in the same configurations, in each of the two automata

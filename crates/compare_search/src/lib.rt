@@ -1,5 +1,5 @@
 // compare_search: all pairs of live sets that words lead to, of two automata that stand in blocks of the lent words. The pairs are walked in
-// number order, each by all letters, so the word by which a pair is met first is a shortest one.
+// number order, each by all letters in their order, so pairs are met in the order of words, each by the first word that leads to it.
 ghost use mathlib.Core.Path.{_≡_};
 ghost use mathlib.Core.Bool.{not, _||_};
 ghost use mathlib.Core.List.{List, [], _∷_};

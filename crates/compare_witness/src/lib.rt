@@ -32,7 +32,7 @@ pub fn judge_pair(w: &[u64], i: usize, f: [u64; 4], g: [u64; 4]) -> u8
     0
 }
 
-// The number of the first of n pairs that differs, or n where none does: its word is a shortest that exactly one accepts.
+// The number of the first of n pairs that differs, or n where none does: its word is the first that exactly one accepts.
 // Cost: n pairs at most.
 pub fn first_difference(w: &[u64], n: usize, f: [u64; 4], g: [u64; 4]) -> usize
     requires { ⌜ 8 * n ≤ length (now w) ⌝ }

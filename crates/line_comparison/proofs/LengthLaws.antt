@@ -11,9 +11,8 @@ use borrow.Author.Tests.{ltb-false}
 use lib.Dec.{eqb}
 use lib.ListN.{length, length-append, length-take, take}
 use Rattle.automata.specs.Automaton.{Automaton}
-use Rattle.automata.specs.Pairs.{Pair, difference, judged, pairs, verdict}
+use Rattle.automata.specs.Pairs.{Pair, differ, firstPassing, judged, pairs, verdict}
 use Rattle.automata.specs.Search.{Entry}
-use Rattle.automata.specs.Unfolding.{acceptedBytes}
 use Rattle.format.specs.Decoding.{automatonOf}
 use Rattle.file_fields.specs.Parts.{numberOf}
 use Rattle.format.specs.Reading.{readingOf}
@@ -24,7 +23,7 @@ use Rattle.file_laws.proofs.Laws.{number-range}
 use Rattle.line_text.specs.Digits.{decimalOf, hexDigits, hexOf}
 use Rattle.line_text.specs.Line.{ascii}
 use Rattle.line_text.proofs.Laws.{decimal-more, decimal-one}
-use Rattle.compare_promise.specs.Comparing.{answerAt, bufferOf, comparedAt, comparisonOf, countRefusals, limitRefusals, refusals, tableRefusals}
+use Rattle.compare_promise.specs.Comparing.{answerOf, bufferOf, comparisonOf, countRefusals, limitRefusals, refusals, tableRefusals}
 use Rattle.compare_promise.specs.declared.Comparison.{Comparison}
 use Rattle.compare_promise.specs.declared.Comparison.the-variants.{Different, Refused, Same}
 use Rattle.line_comparison.specs.ComparisonLines.{comparisonLine}
@@ -74,10 +73,10 @@ small-after (t ∷ l) a s f = go (t .0) refl (λ e. small-after l a (s .1) (λ n
     go true e later = s .0
     go false e later = later e
 
-small-answer : (x y : Automaton) (L n taker size : ℕ) (o : Option (Entry Pair)) → n ≤ 512 → Small (answerAt (judged x y L n o) taker size)
+small-answer : (x y : Automaton) (L n : ℕ) (o : Option (Entry Pair)) → n ≤ 512 → Small (answerOf (judged x y L n o))
 unfolding judged
-small-answer x y L n taker size none h = h
-small-answer x y L n taker size (some e) h = h
+small-answer x y L n none h = h
+small-answer x y L n (some e) h = h
 
 fault-small : (file : List ℕ) → faultOf file < 100
 fault-small file = go (readingOf file) (λ n place e. number-range file n e .1) refl
@@ -86,16 +85,16 @@ fault-small file = go (readingOf file) (λ n place e. number-range file n e .1) 
     go (Valid c) known e = omega arith
     go (Fault n place) known e = omega (arith, known n place e)
 
-module _ (first second : List ℕ) (words buffer : ℕ) (word : List ℕ) where
+module _ (first second : List ℕ) (words buffer : ℕ) where
   abbrev x : Automaton
   x = automatonOf first
 
   abbrev y : Automaton
   y = automatonOf second
 
-  small-compared : length (pairs x y 256 512) ≤ 512 → Small (comparedAt 256 512 x y word)
-  unfolding comparedAt verdict
-  small-compared h = small-answer x y 256 (length (pairs x y 256 512)) (cond (acceptedBytes x 256 word) 1 2) (length word) (difference x y 256 512) h
+  small-compared : length (pairs x y 256 512) ≤ 512 → Small (answerOf (verdict x y 256 512))
+  unfolding verdict
+  small-compared h = small-answer x y 256 (length (pairs x y 256 512)) (firstPassing x y 256 differ 512) h
 
   all-small : AllSmall (refusals 256 2048 512 first second words buffer)
   unfolding refusals tableRefusals limitRefusals countRefusals
@@ -123,9 +122,9 @@ module _ (first second : List ℕ) (words buffer : ℕ) (word : List ℕ) where
   unfolding refusals tableRefusals limitRefusals countRefusals
   few h = ltb-false 512 (length (pairs x y 256 512)) (h .1 .1 .1 .1 .1 .1 .1 .1 .0)
 
-  small : Small (comparisonOf first second words buffer word)
+  small : Small (comparisonOf first second words buffer)
   unfolding comparisonOf
-  small = small-after (refusals 256 2048 512 first second words buffer) (comparedAt 256 512 x y word) all-small (λ h. small-compared (few h))
+  small = small-after (refusals 256 2048 512 first second words buffer) (answerOf (verdict x y 256 512)) all-small (λ h. small-compared (few h))
 
 -- ---- the line
 six : (b : Bool) → length (cond b (ascii "TAKES1") (ascii "TAKES2")) ≡ 6
@@ -142,5 +141,5 @@ short-line (Different n taker size) word old s e =
 short-line (Refused n b) word old s e = simp length-append (omega (arith, digits 1 n (omega arith), digits 0 b (omega arith)))
 
 -- The line of two files.
-pub short : (first second : List ℕ) (words buffer : ℕ) (word old : List ℕ) → length (bufferOf (comparisonOf first second words buffer word) word old) ≡ 512 → length (comparisonLine (comparisonOf first second words buffer word) word) ≤ 1036
-short first second words buffer word old e = short-line (comparisonOf first second words buffer word) word old (small first second words buffer word) e
+pub short : (first second : List ℕ) (words buffer : ℕ) (word old : List ℕ) → length (bufferOf (comparisonOf first second words buffer) word old) ≡ 512 → length (comparisonLine (comparisonOf first second words buffer) word) ≤ 1036
+short first second words buffer word old e = short-line (comparisonOf first second words buffer) word old (small first second words buffer) e

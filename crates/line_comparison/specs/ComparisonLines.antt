@@ -1,16 +1,13 @@
 -- ComparisonLines: the line that tells what comparing answers (document 01, `bookcompare`), and that of the program `cases`.
 use mathlib.Core.Bool.{cond}
 use mathlib.Core.List.{List, [], _∷_}
-use Prim.Native.Nat.{ℕ, _≤_}
+use Prim.Native.Nat.{ℕ}
 use lib.Dec.{eqb}
-use lib.ListN.{length, take}
+use lib.ListN.{take}
 use Rattle.line_text.specs.Digits.{decimalOf, hexOf}
 use Rattle.line_text.specs.Line.{ascii, line}
-use Rattle.line_text.specs.Writing.{Writes}
-use Rattle.format.specs.Decoding.{automatonOf}
 use Rattle.line_answers.specs.Lines.{countLine, refusalLine, refusedLine}
-use Rattle.compare_promise.specs.Comparing.{comparisonOf}
-use Rattle.compare_promise.specs.Compares.{ShownBy}
+use Rattle.compare_promise.specs.Comparing.{comparisonOf, shownWord}
 use Rattle.compare_promise.specs.declared.Comparison.{Comparison}
 use Rattle.compare_promise.specs.declared.Comparison.the-variants.{Different, Refused, Same}
 
@@ -41,11 +38,6 @@ comparisonCaseLine (Different pairs taker n) word = takerLine (ascii "takes1") (
 comparisonCaseLine (Refused number automaton) word = refusedLine number automaton
 
 -- ---- from two files to the line
--- The line of two files is written into `old`, at `end` it ends, and the bytes are then `new`. One thing is free, the shown word
--- among shortest ones; working memory and the buffer for that word have the sizes that comparing asks for. No line is cut where `old`
--- has 1,036 bytes.
-pub record WritesComparison (first second : List ℕ) (end : ℕ) (old new : List ℕ) : Type 0 where
-  pub word : List ℕ
-  pub shown : ShownBy (automatonOf first) (automatonOf second) word (comparisonOf first second 8192 512 word)
-  pub writes : Writes (comparisonLine (comparisonOf first second 8192 512 word) word) 0 end old new
-  pub short : length (comparisonLine (comparisonOf first second 8192 512 word) word) ≤ 1036
+-- the line of two files, where working memory and the buffer for the shown word have the sizes that comparing asks for
+abbrev pub lineOf : (first second : List ℕ) → List ℕ
+lineOf first second = comparisonLine (comparisonOf first second 8192 512) (shownWord first second)

@@ -1,8 +1,10 @@
 // line_comparison: the line that tells what comparing answers, written into bytes that the caller lends.
 // Each function answers how many bytes the line takes, its newline included; what has no room is cut.
 use compare::Comparison;
+ghost use Prim.Native.Nat.{_≤_};
+ghost use lib.ListN.{length};
 ghost use Rattle.line_text.specs.Writing.{Writes};
-ghost use Rattle.line_comparison.specs.ComparisonLines.{comparisonCaseLine, comparisonLine, differentLine, sameLine, takerLine, WritesComparison};
+ghost use Rattle.line_comparison.specs.ComparisonLines.{comparisonCaseLine, comparisonLine, differentLine, lineOf, sameLine, takerLine};
 
 // The two accept the same words. Cost: the bytes of the line.
 fn same_line(pairs: u64, out: &mut [u8]) -> usize
@@ -92,16 +94,19 @@ fn compared_line(
     word: &mut [u8; 512],
     out: &mut [u8],
 ) -> usize
-    ensures { λ n. ⌜ WritesComparison (now (first .entry)) (now (second .entry)) n (now (out .entry)) (now (out .exit)) ⌝ }
+    ensures writes { λ n. ⌜ Writes (lineOf (now (first .entry)) (now (second .entry))) 0 n (now (out .entry)) (now (out .exit)) ⌝ }
+    ensures short { λ _. ⌜ length (lineOf (now (first .entry)) (now (second .entry))) ≤ 1036 ⌝ }
 {
     let r = compare::compare(first, second, work, word);
     answer_line(r, word, out)
 }
 
-// The line that `bookcompare` writes of two files: they accept the same words, or a shortest word that exactly one accepts, or
-// a refusal. Any files are answered. Cost: that of comparing, whose working memory lies on the stack, 66,048 bytes.
+// The line that `bookcompare` writes of two files: they accept the same words, or the first word that exactly one accepts, or a refusal.
+// Any files are answered, and no line is cut where the output has 1,036 bytes. Cost: that of comparing, whose working memory lies on the
+// stack, 66,048 bytes.
 pub fn comparison_line(first: &[u8], second: &[u8], out: &mut [u8]) -> usize
-    ensures { λ n. ⌜ WritesComparison (now (first .entry)) (now (second .entry)) n (now (out .entry)) (now (out .exit)) ⌝ }
+    ensures writes { λ n. ⌜ Writes (lineOf (now (first .entry)) (now (second .entry))) 0 n (now (out .entry)) (now (out .exit)) ⌝ }
+    ensures short { λ _. ⌜ length (lineOf (now (first .entry)) (now (second .entry))) ≤ 1036 ⌝ }
 {
     let mut work = [0u64; 8192];
     let mut word = [0u8; 512];

@@ -1,9 +1,6 @@
 -- Results: the struct of each answer: the fields are what the answer tells, as the promises have it. A number of 0 says that nothing was
 -- refused; a refusal leaves 0 in every field but its number, the automaton at fault and, of reading, the place.
-use mathlib.Core.Path.{_≡_}
 use mathlib.Core.Bool.{cond}
-use mathlib.Core.List.{List}
-use Prim.Native.Nat.{ℕ}
 use Rattle.file_fields.specs.declared.Reading.{Reading as ReadingAnswer}
 use Rattle.format.specs.Reading.{told as toldReading}
 use Rattle.table.specs.declared.Membership.{Membership as MembershipAnswer}
@@ -12,7 +9,6 @@ use Rattle.file_writing.specs.declared.Written.{Written as WrittenAnswer}
 use Rattle.file_writing.specs.Answers.{told as toldWritten}
 use Rattle.compare_promise.specs.declared.Comparison.{Comparison as ComparisonAnswer}
 use Rattle.compare_promise.specs.Comparing.{told as toldComparison}
-use Rattle.compare_promise.specs.Compares.{Compares}
 use Rattle.registered_automata.specs.declared.results.Comparison.{Comparison}
 use Rattle.registered_automata.specs.declared.results.Reading.{Reading}
 use Rattle.registered_automata.specs.declared.results.Membership.{Membership}
@@ -44,10 +40,3 @@ writtenFields r = let t = toldWritten r in record { length = t .size; number = t
 -- of comparing; a taker of 0 stands for the same words
 abbrev pub comparisonFields : ComparisonAnswer → Comparison
 comparisonFields r = let t = toldComparison r in record { pairs = t .pairs; length = t .size; number = t .number; automaton = t .at-fault; taker = t .taker }
-
--- comparing leaves the word free among shortest ones: the struct tells an answer that its contract allows, with the buffer `new` of
--- the buffer `old`
-pub record ComparesTold (first second : List ℕ) (words : ℕ) (old new : List ℕ) (told : Comparison) : Type 0 where
-  pub answer : ComparisonAnswer
-  pub compares : Compares first second words old new answer
-  pub fields : told ≡ comparisonFields answer

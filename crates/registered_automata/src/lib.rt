@@ -11,7 +11,8 @@ ghost use Rattle.table.specs.Membership.{membershipOf};
 ghost use Rattle.file_writing.specs.Answers.{outputOf};
 ghost use Rattle.join_parts.specs.Joining.{joinedOf, closedOf};
 ghost use Rattle.unfold.specs.Unfolding.{unfoldingOf};
-ghost use Rattle.registered_automata.specs.Results.{readingFields, membershipFields, writtenFields, ComparesTold};
+ghost use Rattle.compare_promise.specs.Comparing.{bufferOf, comparisonOf, shownWord};
+ghost use Rattle.registered_automata.specs.Results.{readingFields, membershipFields, writtenFields, comparisonFields};
 use results::Comparison;
 use results::Membership;
 use results::Reading;
@@ -86,7 +87,7 @@ pub extern "C" fn ra_close(file: &[u8], out: &mut [u8]) -> Written
     as_written(join::close(file, out))
 }
 
-// Do the two accept the same words? Refusals and cost: `compare::compare`.
+// Do the two accept the same words? Else the first word that exactly one accepts is shown. Refusals and cost: `compare::compare`.
 #[no_mangle]
 pub extern "C" fn ra_compare(
     first: &[u8],
@@ -95,7 +96,8 @@ pub extern "C" fn ra_compare(
     word: &mut [u8],
 ) -> Comparison
     ensures same { λ _. ⌜ length (now (work .exit)) ≡ length (now (work .entry)) ⌝ }
-    ensures compares { λ r. ⌜ ComparesTold (now (first .entry)) (now (second .entry)) (length (now (work .entry))) (now (word .entry)) (now (word .exit)) r ⌝ }
+    ensures answer { λ r. ⌜ r ≡ comparisonFields (comparisonOf (now (first .entry)) (now (second .entry)) (length (now (work .entry))) (length (now (word .entry)))) ⌝ }
+    ensures shown { λ _. ⌜ now (word .exit) ≡ bufferOf (comparisonOf (now (first .entry)) (now (second .entry)) (length (now (work .entry))) (length (now (word .entry)))) (shownWord (now (first .entry)) (now (second .entry))) (now (word .entry)) ⌝ }
 {
     as_comparison(compare::compare(first, second, work, word))
 }

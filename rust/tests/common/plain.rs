@@ -365,7 +365,8 @@ pub enum Verdict {
     Same {
         pairs: usize,
     },
-    /// A shortest word that exactly one accepts, and which: 1 or 2.
+    /// The first word that exactly one accepts, and which: 1 or 2. Words come in order by their length, and then by the
+    /// places of their letters in the letter list.
     Different {
         pairs: usize,
         accepted_by: u8,
@@ -373,7 +374,37 @@ pub enum Verdict {
     },
 }
 
-/// The verdict on two files. Where words of the same length tell the two apart, the first in letter order is shown.
+/// The first word that leads from pair 0 to one that differs, given by its letters' places, and the pair that it leads to;
+/// none where no word does. From pair i letter l leads to pair `behind[i][l]`. It does not hang on the order in which pairs
+/// are numbered: first the least number of letters is found that lead from a pair to one that differs; then the word is put
+/// together letter by letter, each the lowest with which a shortest such word goes on.
+fn first_word(behind: &[Vec<usize>], differs: &[bool]) -> Option<(Vec<usize>, usize)> {
+    let mut least: Vec<Option<usize>> = differs.iter().map(|&d| d.then_some(0)).collect();
+    let mut letters = 0;
+    let mut more = true;
+    while more {
+        letters += 1;
+        more = false;
+        for pair in 0..behind.len() {
+            let one_less = |&target: &usize| least[target] == Some(letters - 1);
+            if least[pair].is_none() && behind[pair].iter().any(one_less) {
+                least[pair] = Some(letters);
+                more = true;
+            }
+        }
+    }
+    let mut at = 0;
+    let mut word = Vec::new();
+    for left in (0..least[0]?).rev() {
+        let goes_on = |&target: &usize| least[target] == Some(left);
+        let letter = behind[at].iter().position(goes_on)?;
+        word.push(letter);
+        at = behind[at][letter];
+    }
+    Some((word, at))
+}
+
+/// The verdict on two files.
 pub fn compare(
     first: &[u8],
     second: &[u8],
@@ -395,41 +426,43 @@ pub fn compare(
             Some(_) => {}
         }
     }
+    // All pairs, and where each letter leads from each.
     let begin = (live_at_start(&x), live_at_start(&y));
     let mut met = HashMap::from([(begin.clone(), 0usize)]);
-    let mut pairs = vec![(begin, Vec::new())];
-    let mut at = 0;
-    while at < pairs.len() {
+    let mut pairs = vec![begin];
+    let mut behind: Vec<Vec<usize>> = Vec::new();
+    while behind.len() < pairs.len() {
+        let (left, right) = pairs[behind.len()].clone();
+        let mut targets = Vec::new();
         for letter in 0..x.letters.len() {
-            let (pair, word): &((BTreeSet<_>, BTreeSet<_>), Vec<u8>) = &pairs[at];
             let next = (
-                live_after(&x, &pair.0, letter),
-                live_after(&y, &pair.1, letter),
+                live_after(&x, &left, letter),
+                live_after(&y, &right, letter),
             );
-            if !met.contains_key(&next) {
-                let mut longer = word.clone();
-                longer.push(x.letters[letter]);
-                met.insert(next.clone(), pairs.len());
-                pairs.push((next, longer));
+            let number = *met.entry(next.clone()).or_insert(pairs.len());
+            if number == pairs.len() {
+                pairs.push(next);
                 if pairs.len() > 512 {
                     return refuse(23, 0);
                 }
             }
+            targets.push(number);
         }
-        at += 1;
+        behind.push(targets);
     }
-    for (pair, word) in &pairs {
-        let by_first = is_accepted(&x, &pair.0);
-        if by_first != is_accepted(&y, &pair.1) {
-            let accepted_by = if by_first { 1 } else { 2 };
-            return Ok(Verdict::Different {
-                pairs: pairs.len(),
-                accepted_by,
-                word: word.clone(),
-            });
-        }
-    }
-    Ok(Verdict::Same { pairs: pairs.len() })
+    let accepted: Vec<(bool, bool)> = pairs
+        .iter()
+        .map(|(left, right)| (is_accepted(&x, left), is_accepted(&y, right)))
+        .collect();
+    let differs: Vec<bool> = accepted.iter().map(|(a, b)| a != b).collect();
+    Ok(match first_word(&behind, &differs) {
+        None => Verdict::Same { pairs: pairs.len() },
+        Some((word, at)) => Verdict::Different {
+            pairs: pairs.len(),
+            accepted_by: if accepted[at].0 { 1 } else { 2 },
+            word: word.iter().map(|&letter| x.letters[letter]).collect(),
+        },
+    })
 }
 
 // ---- joins

@@ -6,7 +6,7 @@ use lib.ListN.{length}
 use Rattle.file_pair.specs.Pair.{filesOf}
 use Rattle.file_pair.specs.declared.Files.the-variants.{Both}
 use Rattle.file_pair.proofs.Laws.{both-joinable}
-use Rattle.compare.proofs.Refusals.{buffer-short, compares, files-both, files-fault, words-short}
+use Rattle.compare.proofs.Refusals.{buffer-short, files-both, files-fault, memory-passed, words-short}
 use Rattle.compare.proofs.compare.Statement.{statement}
 use Rattle.compare.proofs.compare.Tie as tie
 
@@ -37,7 +37,7 @@ returns-3 c =
     let r = c .before .before .before in
     let i = r .before .before in
     let a = start i .args in
-    (refl, compares (a .first .now) (a .second .now) (length (a .work .now)) (a .word .now) (omega (arith, i .if1 .left)) (omega (arith, r .before .if2 .left)) (files-fault (a .first .now) (a .second .now) (a .word .now) (sym (r .read-files .ensures) ∙ c .before .number .given .1)))
+    (refl, memory-passed (a .first .now) (a .second .now) (length (a .work .now)) (a .word .now) (omega (arith, i .if1 .left)) (omega (arith, r .before .if2 .left)) (files-fault (a .first .now) (a .second .now) (a .word .now) (sym (r .read-files .ensures) ∙ c .before .number .given .1)))
 
 returns-4 : tie.Need-returns-4
 returns-4 c =
@@ -46,7 +46,7 @@ returns-4 c =
     let r = k .before .before .before in
     let i = r .before .before in
     let a = start i .args in
-    (d .compare-files .ensures .0, compares (a .first .now) (a .second .now) (length (a .work .now)) (a .word .now) (omega (arith, i .if1 .left)) (omega (arith, r .before .if2 .left)) (files-both (a .first .now) (a .second .now) (both k) (d .compare-files .ensures .1)))
+    (d .compare-files .ensures .0, memory-passed (a .first .now) (a .second .now) (length (a .work .now)) (a .word .now) (omega (arith, i .if1 .left)) (omega (arith, r .before .if2 .left)) (files-both (a .first .now) (a .second .now) (both k) (d .compare-files .ensures .1)))
 
 pub compare-spec : {M : Type 1} → statement M
 compare-spec =

@@ -6,7 +6,7 @@ use Prim.Native.Nat.{_+_, _-_, ℕ}
 use native.Mathlib.Omega.{arith}
 use lib.ListN.{drop, length, take}
 use Rattle.format.specs.Decoding.{automatonOf}
-use Rattle.file_laws.proofs.Laws.{lent-letters, valid-alphabet, valid-letters, valid-wellFormed}
+use Rattle.file_laws.proofs.Laws.{lent-letters, valid-alphabet, valid-letters}
 use Rattle.table_sets.proofs.Laws.{block-but, tells-listed}
 use Rattle.table.proofs.Laws.{letters-few}
 use Rattle.compare.specs.Loading.{Comparable, Prepared}
@@ -113,8 +113,6 @@ comparable e end q =
     record {
       first = first-prepared e;
       second = second-prepared e;
-      formed₁ = valid-wellFormed (a .first .now) (a .a) (j .first);
-      formed₂ = valid-wellFormed (a .second .now) (a .b) (j .second);
       shared = j .shared;
       spelled = lent e end q;
     }
