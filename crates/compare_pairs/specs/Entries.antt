@@ -26,25 +26,29 @@ pub record Side : Type 0 where
 abbrev pub sideOf : Automaton → ℕ → Side
 sideOf x L = record { size = length (configurations x L); arcs = plainArcs x L }
 
--- the pair behind one letter more, and the pair of the empty word
+-- the pair behind one letter more
 unfoldable pub along : Side → Side → Pair → ℕ → Pair
 unfolding byLetter
 along s t p l = record { left = byLetter (s .size) (s .arcs) (p .left) l; right = byLetter (t .size) (t .arcs) (p .right) l }
 
+-- the pair of the empty word
 unfoldable pub begin : Side → Side → Pair
 unfolding live
 begin s t = record { left = live (s .size) (s .arcs) []; right = live (t .size) (t .arcs) [] }
 
+-- the entry behind one letter more: its pair, and its word with the letter behind
 abbrev pub onEntry : Side → Side → Entry Pair → ℕ → Entry Pair
 onEntry s t e l = record { state = along s t (e .state) l; word = e .word ++ l ∷ [] }
 
+-- entries are told apart by their pairs, not by their words
 abbrev pub alike : Entry Pair → Entry Pair → Bool
 alike e f = samePair (e .state) (f .state)
 
--- the parent of pair i, and the letter by which pair i was met from it
+-- the parent of pair i
 abbrev pub parentOf : List ℕ → ℕ → ℕ
 parentOf w i = field w parents i / 64
 
+-- the letter by which pair i was met from its parent
 abbrev pub letterOf : List ℕ → ℕ → ℕ
 letterOf w i = field w parents i % 64
 

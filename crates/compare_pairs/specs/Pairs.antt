@@ -20,6 +20,7 @@ use Rattle.compare_pairs.specs.declared.Grown.the-variants.{TooMany, Tot
 unfoldable pub turn : ℕ → ℕ → ℕ
 turn x k = bitOr (x * 2 ^ k % 2 ^ 64) (x / 2 ^ (64 - k))
 
+-- the key: the eight words, each turned by another number of places, so that equal words do not cancel
 unfoldable pub pairSlot : List ℕ → List ℕ → ℕ
 unfolding turn
 pairSlot u v =
@@ -50,6 +51,7 @@ pub record Added (w w' : List ℕ) (n : ℕ) (u v : List ℕ) (from : ℕ) : Typ
 
 -- ---- meeting (u, v): it is one of the n pairs, or it becomes the next one, or there is no room for it
 
+-- it is one of them, and nothing is written
 pub record Old (w w' : List ℕ) (n m : ℕ) (u v : List ℕ) : Type 0 where
   pub same : w' ≡ w
   pub many : m ≡ n
@@ -57,17 +59,20 @@ pub record Old (w w' : List ℕ) (n m : ℕ) (u v : List ℕ) : Type 0 where
   pub low : place < n
   pub is : PairAt w u v place
 
+-- it is none of them, and becomes the next one
 pub record New (w w' : List ℕ) (n m : ℕ) (u v : List ℕ) (from : ℕ) : Type 0 where
   pub many : m ≡ n + 1
   pub room : n < 512
   pub lacks : Lacking w n u v
   pub added : Added w w' n u v from
 
+-- it is none of them, and there is no room
 pub record Full (w w' : List ℕ) (n : ℕ) (u v : List ℕ) : Type 0 where
   pub same : w' ≡ w
   pub many : 512 ≤ n
   pub lacks : Lacking w n u v
 
+-- the words once it is met, by what is answered
 abbrev pub Met : (w w' : List ℕ) (n : ℕ) (u v : List ℕ) (from : ℕ) → Grown → Type 0
 Met w w' n u v from TooMany = Full w w' n u v
 Met w w' n u v from (Total m) = Old w w' n m u v ⊎ New w w' n m u v from

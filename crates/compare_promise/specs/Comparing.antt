@@ -81,6 +81,7 @@ pub record Told : Type 0 where
   pub taker : ℕ
   pub size : ℕ
 
+-- what an answer tells
 abbrev pub told : Comparison → Told
 told (Same n) = record { number = 0; at-fault = 0; same = true; different = false; pairs = n; taker = 0; size = 0 }
 told (Different n taker size) = record { number = 0; at-fault = 0; same = false; different = true; pairs = n; taker = taker; size = size }

@@ -19,6 +19,7 @@ use Rattle.format.specs.Refusals.{FirstHolds, faultOf}
 use Rattle.compare_promise.specs.Comparing.{Told}
 
 -- ---- document 01's refusals in their order: a condition, the number, and the automaton at fault
+-- those because of what the tables hold
 abbrev pub tableConditions : Automaton → Automaton → List (Type 0 × ℕ × ℕ)
 tableConditions x y =
     (MoreThan (Reachable x) 256, 21, 1)
@@ -28,6 +29,7 @@ tableConditions x y =
     ∷ (MoreThan (SomePair x y 256) 512, 23, 0)
     ∷ []
 
+-- all of the call
 abbrev pub conditions : (first second : List ℕ) (words buffer : ℕ) → List (Type 0 × ℕ × ℕ)
 conditions first second words buffer =
     ((words < 8192) ⊎ (buffer < 512), 24, 0)

@@ -14,6 +14,7 @@ unfoldable pub spelled : List ℕ → ℕ → ℕ → List ℕ
 spelled w zero k = []
 spelled w (suc f) k = cond (eqb k 0) [] (spelled w f (parentOf w k) ++ letterOf w k ∷ [])
 
+-- the word by which pair k was met
 abbrev pub wordOf : List ℕ → ℕ → List ℕ
 wordOf w k = spelled w k k
 
@@ -29,6 +30,7 @@ unfoldable pub takerBy : (F G : List Bool) → Pair → ℕ
 unfolding alone meets
 takerBy F G p = alone (meets (p .left) F) (meets (p .right) G)
 
+-- does exactly one automaton accept the words of a pair?
 abbrev pub differsBy : (F G : List Bool) → Pair → Bool
 differsBy F G p = not (eqb (takerBy F G p) 0)
 

@@ -21,19 +21,21 @@ unfoldable pub setOf : List ℕ → ℕ → ℕ → ℕ → List ℕ
 unfolding bit row
 setOf w acc met l = cond (bit met l) (row w acc l) (0 ∷ 0 ∷ 0 ∷ 0 ∷ [])
 
--- where the listed arcs of configuration c start, and where they end, of `count` configurations and `plain` arcs
+-- where the listed arcs of configuration c start
 unfoldable pub startAt : List ℕ → ℕ → ℕ → ℕ
 unfolding field
 startAt w base c = field w (startsAt base) c
 
+-- where they end, of `count` configurations and `plain` arcs
 unfoldable pub endAt : List ℕ → ℕ → ℕ → ℕ → ℕ → ℕ
 unfolding startAt
 endAt w base count plain c = cond (ltb (c + 1) count) (startAt w base (c + 1)) plain
 
--- the letter's byte of listed arc k, and its target
+-- the letter's byte of listed arc k
 abbrev pub letterAt : List ℕ → (base k : ℕ) → ℕ
 letterAt w base k = field w (arcsAt base) k / 256
 
+-- its target
 abbrev pub targetAt : List ℕ → (base k : ℕ) → ℕ
 targetAt w base k = field w (arcsAt base) k % 256
 
