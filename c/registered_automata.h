@@ -1,4 +1,4 @@
-/* Finite-state registered automata in files: read, run, unfold, join and compare them.
+/* Finite-state registered automata in files: read, run, unfold, join and compare them, and count their words.
  *
  * Link with libregistered_automata.a, which `rt staticlib registered_automata` writes to target/staticlib (x86-64).
  *
@@ -6,7 +6,7 @@
  * handed to it and writes only to the memory lent to it, so calls in different threads may run at the same time if they are lent
  * different memory. All memory belongs to the caller before, during and after a call. A pointer whose length is 0 may be null.
  * Memory that a call may write to must not overlap any other that it is handed.
- * Stack: less than 1,000 bytes were measured in every call, the most in ra_compare, whatever the files.
+ * Stack: less than 1,200 bytes were measured in every call, the most in ra_compare, whatever the files.
  *
  * Every call comes back, on every input: a file may hold any bytes.
  *
@@ -22,9 +22,9 @@
  * call that was not refused leaves the bytes behind its result as they were lent.
  *
  * Where several refusals would be in place, the call answers the first in this order: RA_TOO_LITTLE_MEMORY_LENT; the first file's
- * fault (1 to 9, the first one that is met from left to right); the second file's fault; RA_LETTER_LISTS_DIFFER;
- * RA_JOINED_BEYOND_A_LIMIT, or RA_TOO_MANY_CONFIGURATIONS and RA_TOO_MANY_PLAIN_ARCS of the first, then of the second;
- * RA_TOO_MANY_PAIRS; RA_OUTPUT_TOO_SHORT.
+ * fault (1 to 9, the first one that is met from left to right); the second file's fault; RA_LETTER_LISTS_DIFFER, or
+ * RA_LENGTH_TOO_LARGE; RA_JOINED_BEYOND_A_LIMIT, or RA_TOO_MANY_CONFIGURATIONS and RA_TOO_MANY_PLAIN_ARCS of the first, then of
+ * the second; RA_TOO_MANY_LIVE_SETS; RA_OUTPUT_TOO_SHORT.
  */
 #ifndef REGISTERED_AUTOMATA_H
 #define REGISTERED_AUTOMATA_H
@@ -80,12 +80,15 @@ enum ra_refusal {
     RA_TOO_MANY_CONFIGURATIONS = 21,
     /* more than 2048 plain arcs: passing arcs, counted at each configuration */
     RA_TOO_MANY_PLAIN_ARCS = 22,
-    /* words lead to more than 512 pairs of live sets */
-    RA_TOO_MANY_PAIRS = 23,
+    /* words lead to more than 512 live sets, or to more than 512 pairs of them where two automata are compared */
+    RA_TOO_MANY_LIVE_SETS = 23,
     /* less working memory than 8192 words, or less room for a word than 512 bytes */
     RA_TOO_LITTLE_MEMORY_LENT = 24,
     /* less room than the result has bytes */
-    RA_OUTPUT_TOO_SHORT = 25
+    RA_OUTPUT_TOO_SHORT = 25,
+    /* of the length of words that are to be counted */
+    /* the length is above 64, or more than 18446744073709551615 words have it */
+    RA_LENGTH_TOO_LARGE = 31
 };
 
 /* What ra_read answers: the counts in the header of a valid file, or its first fault and where that stands. */
@@ -122,6 +125,14 @@ struct ra_comparison {
     uint8_t number;     /* 0, or enum ra_refusal */
     uint8_t automaton;  /* the automaton at fault */
     uint8_t taker;      /* 0: the two accept the same words; 1 or 2: only this one accepts the shown word */
+};
+
+/* What ra_count_words answers. */
+struct ra_word_count {
+    uint64_t accepted;  /* how many words of the length are accepted */
+    uint64_t rejected;  /* how many words of the length are not */
+    uint8_t number;     /* 0, or enum ra_refusal */
+    uint8_t automaton;  /* the automaton at fault */
 };
 
 /* Is the file valid? Answers the counts in its header, or its first fault, which is always that of the one file, and its place: where
@@ -168,6 +179,13 @@ struct ra_comparison ra_compare(const uint8_t *first, size_t first_length,
                                 const uint8_t *second, size_t second_length,
                                 uint64_t *work, size_t work_words,
                                 uint8_t *word, size_t word_length);
+
+/* How many words of `length` letters does the automaton of the file accept, and how many not? A word is counted once, however many
+ * runs spell it. With no letters there is one word of length 0, and none of any other length. What is counted for
+ * RA_TOO_MANY_LIVE_SETS are the live sets of words of every length. Refused: 1 to 9, 21, 23, 24, 31; never 22. */
+struct ra_word_count ra_count_words(const uint8_t *file, size_t file_length,
+                                    uint64_t length,
+                                    uint64_t *work, size_t work_words);
 
 #ifdef __cplusplus
 }

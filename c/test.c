@@ -345,6 +345,42 @@ static void test_compare(void) {
     expect_no_comparison(ra_compare(T, sizeof T, V, sizeof V, work, RA_WORKING_WORDS, out, RA_WORD_BYTES - 1), RA_TOO_LITTLE_MEMORY_LENT, 0);
 }
 
+static void expect_words(const char *name, const uint8_t *file, size_t size, uint64_t length, uint64_t accepted, uint64_t rejected) {
+    printf("ra_count_words of %s, length %llu\n", name, (unsigned long long)length);
+    lend();
+    struct ra_word_count r = ra_count_words(file, size, length, work, RA_WORKING_WORDS);
+    expect("number", r.number, 0);
+    expect("automaton at fault", r.automaton, 0);
+    expect("accepted", r.accepted, accepted);
+    expect("rejected", r.rejected, rejected);
+}
+
+static void expect_no_words(struct ra_word_count r, enum ra_refusal number, int automaton) {
+    expect("number", r.number, number);
+    expect("automaton at fault", r.automaton, automaton);
+    expect("all else together", r.accepted + r.rejected, 0);
+}
+
+static void test_count_words(void) {
+    expect_words("T", T, sizeof T, 0, 0, 1);
+    expect_words("T", T, sizeof T, 3, 2, 25);
+    expect_words("T", T, sizeof T, 40, 2, 12157665459056928799u);
+    expect_words("the closure of S", S_CLOSED, sizeof S_CLOSED, 0, 1, 0);
+    expect_words("the closure of S: every word that ends in b", S_CLOSED, sizeof S_CLOSED, 63, 4611686018427387904u, 4611686018427387904u);
+    expect_words("K", K, sizeof K, 1, 1, 0);
+    expect_words("K", K, sizeof K, 64, 0, 1);
+    printf("ra_count_words of K, length 65\n");
+    expect_no_words(ra_count_words(K, sizeof K, 65, work, RA_WORKING_WORDS), RA_LENGTH_TOO_LARGE, 0);
+    printf("ra_count_words of K, the largest length\n");
+    expect_no_words(ra_count_words(K, sizeof K, UINT64_MAX, work, RA_WORKING_WORDS), RA_LENGTH_TOO_LARGE, 0);
+    printf("ra_count_words of S, length 64: 2 to the power 64 is too large\n");
+    expect_no_words(ra_count_words(S, sizeof S, 64, work, RA_WORKING_WORDS), RA_LENGTH_TOO_LARGE, 0);
+    printf("ra_count_words of T without its last byte, length 65: the file's fault comes first\n");
+    expect_no_words(ra_count_words(T, sizeof T - 1, 65, work, RA_WORKING_WORDS), RA_ENDS_INSIDE_A_FIELD, 1);
+    printf("ra_count_words with a working word too few\n");
+    expect_no_words(ra_count_words(NULL, 0, 65, work, RA_WORKING_WORDS - 1), RA_TOO_LITTLE_MEMORY_LENT, 0);
+}
+
 int main(void) {
     test_read();
     test_accepts();
@@ -357,6 +393,7 @@ int main(void) {
     test_joined("ra_intersect", ra_intersect, 1, 0);
     test_close();
     test_compare();
+    test_count_words();
     printf("%d checks, %d differences\n", checks, differences);
     return differences > 0;
 }

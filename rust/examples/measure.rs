@@ -1,7 +1,7 @@
 //! measure engine|plain CALL REPEATS FIRST [SECOND]: makes one call so many times, and prints the best time of one in nanoseconds.
 //!
-//! CALL is read, accepts, unfold, union, concatenate, intersect, close or compare. SECOND is the second file; for accepts
-//! it is a number: the word is so many letters, in turn. bench/run counts the instructions of a call with it.
+//! CALL is read, accepts, unfold, union, concatenate, intersect, close, compare or count_words. SECOND is the second file; for accepts
+//! it is a number: the word is so many letters, in turn; for count_words it is the length. bench/run counts the instructions of a call with it.
 
 #[path = "../tests/common/plain.rs"]
 #[allow(dead_code)]
@@ -30,8 +30,12 @@ fn main() {
     let repeats: u32 = repeats.parse().expect("a number of repeats");
     let file = std::fs::read(first).expect("the first file");
     let other = rest.first().map_or(String::new(), String::clone);
+    let mut length = 0;
     let second = if call == "accepts" {
         word(&file, other.parse().expect("the length of the word"))
+    } else if call == "count_words" {
+        length = other.parse().expect("the length of the words");
+        Vec::new()
     } else if other.is_empty() {
         Vec::new()
     } else {
@@ -52,6 +56,9 @@ fn main() {
         ("engine", "compare") => {
             Box::new(|| finish(engine::compare(&file, &second, &mut work, &mut out)))
         }
+        ("engine", "count_words") => {
+            Box::new(|| finish(engine::count_words(&file, length, &mut work)))
+        }
         ("plain", "read") => Box::new(|| finish(plain::read(&file))),
         ("plain", "accepts") => Box::new(|| finish(plain::accepts(&file, &second, 8192))),
         ("plain", "unfold") => Box::new(|| finish(plain::unfold(&file, 8192, 60_000))),
@@ -60,6 +67,7 @@ fn main() {
         ("plain", "intersect") => Box::new(|| finish(plain::intersect(&file, &second, 60_000))),
         ("plain", "close") => Box::new(|| finish(plain::close(&file, 60_000))),
         ("plain", "compare") => Box::new(|| finish(plain::compare(&file, &second, 8192, 512))),
+        ("plain", "count_words") => Box::new(|| finish(plain::count_words(&file, length, 8192))),
         _ => panic!("no such call: {side} {call}"),
     };
     let mut best = u128::MAX;

@@ -36,6 +36,14 @@ pub struct Comparison {
     pub taker: u8,
 }
 
+#[repr(C)]
+pub struct WordCount {
+    pub accepted: u64,
+    pub rejected: u64,
+    pub number: u8,
+    pub automaton: u8,
+}
+
 extern "C" {
     pub fn ra_read(file: *const u8, file_length: usize) -> Reading;
     pub fn ra_accepts(
@@ -94,4 +102,11 @@ extern "C" {
         word: *mut u8,
         word_length: usize,
     ) -> Comparison;
+    pub fn ra_count_words(
+        file: *const u8,
+        file_length: usize,
+        length: u64,
+        work: *mut u64,
+        words: usize,
+    ) -> WordCount;
 }

@@ -1,4 +1,4 @@
-//! Finite-state registered automata in files: read, run, unfold, join and compare them.
+//! Finite-state registered automata in files: read, run, unfold, join and compare them, and count their words.
 //!
 //! A safe function for each call of the verified engine, whose static library this crate links. The engine allocates
 //! nothing: working words and outputs are lent by the caller. It is proved that every call finishes on every input,
@@ -64,6 +64,13 @@ pub enum Comparison {
         accepted_by: Automaton,
         length: usize,
     },
+}
+
+/// How many words of one length are accepted, and how many are not.
+#[derive(Clone, Copy, Debug, PartialEq, Eq)]
+pub struct WordCount {
+    pub accepted: u64,
+    pub rejected: u64,
 }
 
 /// Is the file valid? Answers its counts, or its first fault and where that stands.
@@ -212,5 +219,37 @@ pub fn compare(
             accepted_by,
             length: r.length as usize,
         },
+    })
+}
+
+/// How many words of `length` letters does the automaton of the file accept, and how many not? A word is counted once,
+/// however many runs spell it. With no letters there is one word of length 0, and none of any other length.
+///
+/// ```
+/// // two letters, 'c' and 'e'; 0 to 1 on 'c', 1 to 1 on both; 1 is final: the words that begin with 'c'
+/// let file = b"MLB\x01\x00\x02\x02\x00\x01\x01\x03\x00ce\x00\x01\
+///     \x00\x00\x01\x01\x00\x00\x01\x00\x01\x01\x00\x00\x01\x01\x01\x01\x00\x00";
+/// let mut work = registered_automata::working_words();
+/// let answer = registered_automata::count_words(file, 63, &mut work).unwrap();
+/// assert_eq!(answer.accepted, 1 << 62);
+/// assert_eq!(answer.rejected, 1 << 62);
+/// ```
+///
+/// Refused, in this order: 24 with fewer than [`WORKING_WORDS`]; 1 to 9; 31 with a length above 64, or one that more words
+/// have than 64 bits count; 21; 23, where words of every length count.
+pub fn count_words(file: &[u8], length: u64, work: &mut [u64]) -> Result<WordCount, Refusal> {
+    let r = unsafe {
+        engine::ra_count_words(
+            file.as_ptr(),
+            file.len(),
+            length,
+            work.as_mut_ptr(),
+            work.len(),
+        )
+    };
+    Refusal::unless(r.number, r.automaton)?;
+    Ok(WordCount {
+        accepted: r.accepted,
+        rejected: r.rejected,
     })
 }

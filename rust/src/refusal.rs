@@ -35,14 +35,15 @@ pub enum Reason {
     JoinedBeyondALimit = 11,
     TooManyConfigurations = 21,
     TooManyPlainArcs = 22,
-    TooManyPairs = 23,
+    TooManyLiveSets = 23,
     TooLittleMemoryLent = 24,
     OutputTooShort = 25,
+    LengthTooLarge = 31,
 }
 
 impl Reason {
     /// All of them, in the order of their numbers.
-    pub const ALL: [Reason; 16] = [
+    pub const ALL: [Reason; 17] = [
         Reason::EndsInsideAField,
         Reason::Mark,
         Reason::Version,
@@ -56,9 +57,10 @@ impl Reason {
         Reason::JoinedBeyondALimit,
         Reason::TooManyConfigurations,
         Reason::TooManyPlainArcs,
-        Reason::TooManyPairs,
+        Reason::TooManyLiveSets,
         Reason::TooLittleMemoryLent,
         Reason::OutputTooShort,
+        Reason::LengthTooLarge,
     ];
 
     /// The number of the refusal.
@@ -88,9 +90,10 @@ impl Reason {
             Reason::JoinedBeyondALimit => "the result would be beyond a limit: 256 states, 8 registers, 2048 arcs, 8 operations on an arc",
             Reason::TooManyConfigurations => "more than 256 configurations can be reached",
             Reason::TooManyPlainArcs => "more than 2048 plain arcs: passing arcs, counted at each configuration",
-            Reason::TooManyPairs => "words lead to more than 512 pairs of live sets",
+            Reason::TooManyLiveSets => "words lead to more than 512 live sets, or to more than 512 pairs of them where two automata are compared",
             Reason::TooLittleMemoryLent => "less working memory than 8192 words, or less room for a word than 512 bytes",
             Reason::OutputTooShort => "less room than the result has bytes",
+            Reason::LengthTooLarge => "the length is above 64, or more than 18446744073709551615 words have it",
         }
     }
 }

@@ -178,6 +178,30 @@ fn try_compare(seed: u64, r: &mut Random) {
     }
 }
 
+fn try_count_words(seed: u64, r: &mut Random) {
+    let letters = random::letters(r);
+    let file = random::counted(r, &letters);
+    let length = random::length(r);
+    let lent = if r.one_in(30) { 8191 } else { 8192 };
+    let mut work = words(r, lent);
+    let answer = engine::count_words(&file, length, &mut work)
+        .map(|w| (w.accepted, w.rejected))
+        .map_err(refusal);
+    assert_eq!(
+        answer,
+        plain::count_words(&file, length, lent),
+        "seed {seed}"
+    );
+    // Few enough words are counted one by one too.
+    if answer.is_ok_and(|(accepted, rejected)| accepted + rejected <= 128) {
+        assert_eq!(
+            answer,
+            Ok(plain::count_each_word(&file, length)),
+            "seed {seed}"
+        );
+    }
+}
+
 fn number_from(name: &str, otherwise: u64) -> u64 {
     std::env::var(name)
         .ok()
@@ -191,7 +215,7 @@ fn every_call_answers_as_the_plain_implementation() {
     let seeds = number_from("SEEDS", 4_000);
     for seed in first..first + seeds {
         let r = &mut Random::new(seed);
-        match r.below(8) {
+        match r.below(9) {
             0 => try_read(seed, r),
             1 => try_accepts(seed, r),
             2 => try_unfold(seed, r),
@@ -199,6 +223,7 @@ fn every_call_answers_as_the_plain_implementation() {
             4 => try_join(seed, r, engine::concatenate, plain::concatenate),
             5 => try_join(seed, r, engine::intersect, plain::intersect),
             6 => try_close(seed, r),
+            7 => try_count_words(seed, r),
             _ => try_compare(seed, r),
         }
     }

@@ -160,6 +160,7 @@ fn working_words_and_bytes_of_the_word() {
         let mut word = [0; 512];
         assert_eq!(number(engine::accepts(&file, b"a", &mut work)), expected);
         assert_eq!(number(engine::unfold(&file, &mut work, &mut out)), expected);
+        assert_eq!(number(engine::count_words(&file, 2, &mut work)), expected);
         assert_eq!(
             number(engine::compare(&file, &file, &mut work, &mut word)),
             expected
@@ -346,7 +347,7 @@ fn pairs_in_comparing() {
     );
     assert_eq!(
         compared(&tail_and_cycle(17, 16), &second),
-        Err(refusal(engine::Reason::TooManyPairs, None))
+        Err(refusal(engine::Reason::TooManyLiveSets, None))
     );
 }
 
@@ -398,4 +399,134 @@ fn a_long_word_is_shown() {
     assert_eq!(answer, Ok(expected));
     assert_eq!(word[..255], [b'a'; 255]);
     assert_eq!(word[255..], [0xA5; 345]);
+}
+
+// ---- counting
+
+/// How many words of a length are accepted and how many are not, or the number of the refusal and whose it is.
+fn counted(file: &[u8], length: u64) -> Result<(u64, u64), (u8, Option<engine::Automaton>)> {
+    engine::count_words(file, length, &mut engine::working_words())
+        .map(|w| (w.accepted, w.rejected))
+        .map_err(|e| (e.reason.number(), e.automaton))
+}
+
+/// An automaton with one state, which is final or not, that many letters, and an arc for each of the first `looped` letters.
+fn one_state(letters: usize, looped: usize, is_final: bool) -> Vec<u8> {
+    let arcs = (0..looped)
+        .map(|letter| Arc {
+            letter: Some(letter),
+            ..arc(0, 0, &[PASS])
+        })
+        .collect();
+    let mut x = automaton(1, 1, arcs);
+    x.letters = (0..letters as u8).collect();
+    x.finals = vec![is_final];
+    write(&x)
+}
+
+#[test]
+fn words_of_no_letters() {
+    for length in [1, 2, 63, 64] {
+        assert_eq!(counted(&one_state(0, 0, true), length), Ok((0, 0)));
+    }
+    assert_eq!(counted(&one_state(0, 0, true), 0), Ok((1, 0)));
+    assert_eq!(counted(&one_state(0, 0, false), 0), Ok((0, 1)));
+    assert_eq!(counted(&one_state(0, 0, true), 65), Err((31, None)));
+}
+
+#[test]
+fn words_of_one_letter() {
+    for length in [0, 1, 63, 64] {
+        assert_eq!(counted(&one_state(1, 1, true), length), Ok((1, 0)));
+        assert_eq!(counted(&one_state(1, 1, false), length), Ok((0, 1)));
+    }
+    for length in [65, 66, 1 << 32, u64::MAX] {
+        assert_eq!(counted(&one_state(1, 1, true), length), Err((31, None)));
+    }
+}
+
+/// Two letters and more: the longest words that 64 bits count, and those that are a letter longer. As many words as the
+/// largest number never have one length; one more than that are the words of 64 letters of 2, of 32 of 4, of 16 of 16.
+#[test]
+fn as_many_words_as_64_bits_count() {
+    for letters in 2..=64 {
+        let words = |length: u64| (letters as u64).checked_pow(length as u32);
+        let length = (0..=64).rev().find(|&l| words(l).is_some()).unwrap();
+        let all = words(length).unwrap();
+        let every = one_state(letters, letters, true);
+        assert_eq!(counted(&every, length), Ok((all, 0)));
+        assert_eq!(counted(&every, length + 1), Err((31, None)));
+        let none = one_state(letters, letters, false);
+        assert_eq!(counted(&none, length), Ok((0, all)));
+        let one = one_state(letters, 1, true);
+        assert_eq!(counted(&one, length), Ok((1, all - 1)));
+    }
+    for (letters, length) in [(2, 63), (3, 40), (4, 31), (16, 15), (64, 10)] {
+        assert!(counted(&one_state(letters, letters, true), length).is_ok());
+    }
+}
+
+/// Two arcs that do the same spell one word: it is counted once.
+#[test]
+fn words_are_counted_and_not_runs() {
+    let file = write(&automaton(2, 1, vec![arc(0, 1, &[PASS]); 2]));
+    assert_eq!(counted(&file, 1), Ok((1, 0)));
+    assert_eq!(counted(&file, 2), Ok((0, 1)));
+}
+
+/// 496 live sets and one for each state of the tail: that of the empty word has the state before both parts too.
+fn tail_and_cycles(tail: usize, letters: &[u8]) -> Vec<u8> {
+    let joined = plain::union(&tail_and_cycle(tail, 16), &tail_and_cycle(0, 31), 60_000).unwrap();
+    let mut x = plain::read(&joined).unwrap();
+    x.letters = letters.to_vec();
+    write(&x)
+}
+
+/// Live sets are counted over words of every length, whatever length is asked for, and the empty set among them.
+#[test]
+fn live_sets_in_counting() {
+    for length in [0, 1, 64] {
+        assert_eq!(counted(&tail_and_cycles(16, b"a"), length), Ok((1, 0)));
+        assert_eq!(counted(&tail_and_cycles(17, b"a"), length), Err((23, None)));
+    }
+    // A second letter, which no arc has, leads to the empty set.
+    for length in [0, 1, 63] {
+        let all = 1 << length;
+        assert_eq!(
+            counted(&tail_and_cycles(15, b"ab"), length),
+            Ok((1, all - 1))
+        );
+        assert_eq!(
+            counted(&tail_and_cycles(16, b"ab"), length),
+            Err((23, None))
+        );
+    }
+}
+
+#[test]
+fn configurations_in_counting() {
+    assert_eq!(counted(&chain(256, false), 64), Ok((0, 1)));
+    assert_eq!(
+        counted(&chain(256, true), 0),
+        Err((21, Some(engine::Automaton::First)))
+    );
+}
+
+#[test]
+fn counting_knows_no_limit_of_plain_arcs() {
+    for length in [0, 1, 64] {
+        assert_eq!(counted(&plain_arcs(true), length), Ok((1, 0)));
+    }
+}
+
+/// The first of several refusals: 24, the file's fault, 31, 21, 23.
+#[test]
+fn refusals_of_counting_in_their_order() {
+    let too_many = chain(256, true);
+    let cut = &too_many[..too_many.len() - 1];
+    let mut few = vec![0; 8191];
+    assert_eq!(number(engine::count_words(cut, 65, &mut few)), 24);
+    assert_eq!(counted(cut, 65), Err((1, Some(engine::Automaton::First))));
+    assert_eq!(counted(&too_many, 65), Err((31, None)));
+    assert_eq!(counted(&tail_and_cycles(17, b"a"), 65), Err((31, None)));
 }

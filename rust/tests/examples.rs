@@ -86,6 +86,24 @@ fn unfolding_keeps_every_word() {
 }
 
 #[test]
+fn unfolding_keeps_the_number_of_words() {
+    for name in names() {
+        let file = file(&name);
+        let count = |file: &[u8], length| {
+            engine::count_words(file, length, &mut engine::working_words())
+                .expect("within the limits")
+        };
+        for length in 0..=10 {
+            assert_eq!(
+                count(&file, length),
+                count(&unfolded(&file), length),
+                "{name}"
+            );
+        }
+    }
+}
+
+#[test]
 fn three_states_and_two_registers_are_enough() {
     assert!(matches!(
         compared(&file("plain"), &file("three_states")),

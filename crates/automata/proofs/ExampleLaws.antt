@@ -10,12 +10,14 @@ use mathlib.Core.List.{List, List·Memᴰ, List·Memᴰ·cases-cons, List·Mem�
 use mathlib.Core.Option.{Option, none, some}
 use Rattle.automata.specs.Automaton.{Arc, Automaton, Reachable, letters}
 use Rattle.automata.specs.Counting.{Apart, Exactly}
-use Rattle.automata.specs.Examples.{Holds, Row, accepts, compare-to, reaches, rejects, rows, unfolds-to}
+use Rattle.automata.specs.Examples.{Holds, Row, accepts, compare-to, counts-to, reaches, rejects, rows, unfolds-to}
 use Rattle.automata.specs.Exploration.{has}
+use Rattle.automata.specs.Lengths.{AcceptedOf, RejectedOf, acceptedMany, rejectedMany}
 use Rattle.automata.specs.Lists.{any, sameBy}
 use Rattle.automata.specs.Pairs.{Right, Verdict, different, pairs, same, verdict}
 use Rattle.automata.specs.Unfolding.{acceptedBytes, configurations, plainArcs}
 use Rattle.automata.proofs.ExplorationLaws.{has-iff}
+use Rattle.automata.proofs.LengthLaws.{accepted-counts, rejected-counts}
 use Rattle.automata.proofs.ListLaws.{and-iff, any-iff, eqb-iff, not-iff, sameBy-iff}
 use Rattle.automata.proofs.MembershipLaws.{acceptedBytes-iff}
 use Rattle.automata.proofs.ReachLaws.{configurations-count}
@@ -77,12 +79,17 @@ sameVerdict-true (different m j v) (different n k w) t =
 compared : (L P : ℕ) → Automaton → Automaton → Verdict → Bool
 compared L P x y v = not (strays x) && (not (strays y) && (eqb (letters y) (letters x) && (leb (length (pairs x y L P)) P && sameVerdict (verdict x y L P) v)))
 
+-- so many words of n letters are accepted, and so many are not
+counted : (L : ℕ) → Automaton → (n k m : ℕ) → Bool
+counted L x n k m = eqb (acceptedMany x L n) k && eqb (rejectedMany x L n) m
+
 checked : (L P : ℕ) → Row → Bool
 checked L P (accepts x w) = within L x (acceptedBytes x L w)
 checked L P (rejects x w) = within L x (not (acceptedBytes x L w))
 checked L P (reaches x n) = within L x (eqb (length (configurations x L)) n)
 checked L P (unfolds-to x n) = within L x (eqb (length (plainArcs x L)) n)
 checked L P (compare-to x y v) = within L x (within L y (compared L P x y v))
+checked L P (counts-to x n k m) = within L x (counted L x n k m)
 
 within-fits : (L : ℕ) (x : Automaton) (t : Bool) → T (within L x t) → Apart (x .alphabet) × (length (configurations x L) ≤ L) × T t
 unfolding within
@@ -102,7 +109,7 @@ compared-right L P x y v fx fy t =
     (verdict-right x y L P (lettered x (p .0)) (lettered y (q .0)) (eqb→eq (letters y) (letters x) (r .0)) fx fy (leb→le _ P (u .0)))
 
 checked-holds : (L P : ℕ) (r : Row) → T (checked L P r) → Holds L r
-unfolding checked
+unfolding checked counted
 checked-holds L P (accepts x w) t = let p = within-fits L x (acceptedBytes x L w) t in (acceptedBytes-iff x (p .0) L (p .1) w) .0 (p .2)
 checked-holds L P (rejects x w) t =
     let p = within-fits L x (not (acceptedBytes x L w)) t in
@@ -115,6 +122,10 @@ checked-holds L P (compare-to x y v) t =
     let p = within-fits L x (within L y (compared L P x y v)) t in
     let q = within-fits L y (compared L P x y v) (p .2) in
     compared-right L P x y v (p .1) (q .1) (q .2)
+checked-holds L P (counts-to x n k m) t =
+    let p = within-fits L x (counted L x n k m) t in
+    let q = (and-iff (eqb (acceptedMany x L n) k) (eqb (rejectedMany x L n) m)) .0 (p .2) in
+    (subst (Exactly (AcceptedOf x n)) (eqb→eq _ k (q .0)) (accepted-counts x L (p .1) n), subst (Exactly (RejectedOf x n)) (eqb→eq _ m (q .1)) (rejected-counts x L (p .1) n))
 
 all-checked : (L P : ℕ) → List Row → Bool
 all-checked L P [] = true
@@ -129,5 +140,5 @@ all-hold L P (x ∷ l) t r k =
 
 -- THE TABLE
 pub rows-hold : (r : Row) → List·Memᴰ r rows → Holds 256 r
-unfolding rows all-checked checked within distinct has acceptedBytes configurations plainArcs compared strays beyond any sameVerdict sameBy pairs verdict
+unfolding rows all-checked checked within distinct has acceptedBytes configurations plainArcs compared strays beyond any sameVerdict sameBy pairs verdict counted acceptedMany rejectedMany
 rows-hold = all-hold 256 512 rows tt

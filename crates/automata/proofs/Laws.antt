@@ -1,6 +1,6 @@
 -- Laws: the laws of this crate that crates above cite. A law that is not named here may change.
 -- the theorems, each in a statement that can be read by itself
-pub use Rattle.automata.proofs.Theorems.{closing, comparing, comparing-more, concatenating, counting-unique, intersecting, membership, pairing, reaching-more, unfolding-language, uniting}
+pub use Rattle.automata.proofs.Theorems.{closing, comparing, comparing-more, concatenating, counting-more, counting-unique, counting-words, intersecting, living-same, membership, pairing, reaching-more, unfolding-language, uniting}
 -- small laws of lists, options and tests that the library lacks
 pub use Rattle.automata.proofs.ListLaws.{and-iff, any-iff, at-back, at-front, at-map, at-mem, at-none, at-some, bool-ext, countFrom-iff, each-at, each-join, each-mem, each-split, eqb-iff, getElem?-append, getElem?-lt, getElem?-none, getElem?-some, iff-trans, map-append, map-map, mem-at, mem-each, none-some, not-iff, only-iff, or-iff, sameBy-iff, snoc-at-cases}
 -- runs one after the other, and runs carried over to other moves
@@ -27,3 +27,12 @@ pub use Rattle.automata.proofs.FirstLaws.{First, at, firstOf-first, now
 pub use Rattle.automata.proofs.PairLaws.{samePair-iff, shown-many}
 -- the languages of the joined and the unfolded automata, for words of bytes and of every length
 pub use Rattle.automata.proofs.LanguageLaws.{same-language}
+-- exploring by letters: the state of the empty word has the first number, and once the walk has ended every letter stays among what was met
+pub use Rattle.automata.proofs.SearchLaws.{met-closed, met-first}
+-- the live sets of one automaton: two are the same just if the test says so; and they are met as the pairs of the automaton and itself are
+pub use Rattle.automata.proofs.LiveSetLaws.{sameSet-iff}
+pub use Rattle.automata.proofs.TwinWalk.{twins-met}
+-- sums over the letters, and that no more words of one length are counted than a number that all of them do not exceed
+pub use Rattle.automata.proofs.SumLaws.{many-fits, sum-ext, sum-part}
+-- the words of one length that an automaton accepts and the others are all words of that length
+pub use Rattle.automata.proofs.LengthLaws.{both-many}

@@ -19,6 +19,10 @@ pub mod SearchLaws
 pub mod PairLaws
 pub mod PairSets
 pub mod VerdictLaws
+pub mod TwinWalk
+pub mod LiveSetLaws
+pub mod SumLaws
+pub mod LengthLaws
 pub mod Parts
 pub mod UnionLaws
 pub mod ConcatenationLaws

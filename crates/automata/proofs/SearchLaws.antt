@@ -17,7 +17,7 @@ use Rattle.automata.specs.Lists.{Each, countFrom}
 use Rattle.automata.specs.Search.{Entry, Finds, Over, Passes, entries, firstOf, leads, met, nextEntries, nexts, origin, sameEntry}
 use Rattle.automata.specs.WordOrder.{Before}
 use Rattle.automata.proofs.CountingLaws.{counts-same, more-same}
-use Rattle.automata.proofs.ExplorationLaws.{known-sound, walk-counts, walk-more}
+use Rattle.automata.proofs.ExplorationLaws.{has-iff, known-closed, known-first, known-sound, walk-counts, walk-more}
 use Rattle.automata.proofs.FirstLaws.{First, at, firstOf-first, nowhere}
 use Rattle.automata.proofs.ListLaws.{at-mem, countFrom-iff, map-map, mem-at}
 use Rattle.automata.proofs.Mapped.{known-map}
@@ -238,3 +238,18 @@ module _ {Q : Type 0} (same : Q → Q → Bool) (eq : (p q : Q) → T (same p q)
   pub met-more : (L : ℕ) → L < length (met same δ a q₀ L) → MoreThan Led L
   unfolding met
   met-more L h = more-same reached (walk-more same eq (nexts δ a) (q₀ ∷ []) (λ y m. absurd (List·Memᴰ·not-nil m), tt) L h)
+
+  -- the state that the empty word leads to has the first number
+  pub met-first : (n : ℕ) → getElem? (met same δ a q₀ n) 0 ≡ some q₀
+  unfolding met
+  met-first n = known-first same (nexts δ a) (q₀ ∷ []) n 0 refl
+
+  -- where the walk has ended, each letter leads from a state that was met to one that was met
+  pub met-closed : (n : ℕ) → length (met same δ a q₀ n) ≤ n → (i l : ℕ) {q : Q} → getElem? (met same δ a q₀ n) i ≡ some q → l < a → (j : ℕ) × (getElem? (met same δ a q₀ n) j ≡ some (δ q l))
+  unfolding met
+  met-closed n ended i l {q} p h =
+      let all = known same (nexts δ a) (q₀ ∷ []) n in
+      let t = known-closed same (nexts δ a) (q₀ ∷ []) (λ r. (eq r r) .1 refl) n ended (at-mem all i p) ((nexts-iff q (δ q l)) .1 (l, h, refl)) in
+      let m = (has-iff same (δ q l) all) .0 t in
+      let k = mem-at (m .1) in
+      (k .0, k .1 ∙ ap some (sym ((eq (δ q l) (m .0)) .0 (m .2))))

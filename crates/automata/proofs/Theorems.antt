@@ -2,20 +2,22 @@
 -- Read specs/ first: Automaton, Words, then the rest in the order of specs/Lib.antt. L and P are limits, whatever their values.
 use mathlib.Core.Path.{_≡_}
 use mathlib.Core.Logic.{_↔_}
-use Prim.Native.Nat.{_<_, _≤_, ℕ}
+use Prim.Native.Nat.{_+_, _^_, _<_, _≤_, suc, ℕ}
 use lib.Dec.{T}
 use lib.ListN.{getElem?, length}
 use mathlib.Core.Bool.{Bool}
 use mathlib.Core.List.{List, List·Memᴰ, map}
 use mathlib.Core.Option.{Option, some}
 use native.Mathlib.Omega.{arith}
-use Rattle.automata.specs.Automaton.{Automaton, Configuration, DoesAll, Op, Produces, Reachable, Run, WellFormed, letters, start}
+use Rattle.automata.specs.Automaton.{Automaton, Configuration, DoesAll, Op, Produces, Reachable, Run, SameEnds, WellFormed, letters, start}
 use Rattle.automata.specs.Counting.{Apart, Exactly, MoreThan}
 use Rattle.automata.specs.Examples.{Holds, Row, rows}
 use Rattle.automata.specs.Exploration.{Distinct, Reach, known, number}
 use Rattle.automata.specs.Joins.{closure, concatenation, intersection, union}
 use Rattle.automata.specs.Languages.{Concatenation, Intersection, Star, Union}
+use Rattle.automata.specs.Lengths.{AcceptedOf, RejectedOf, acceptedMany, rejectedMany}
 use Rattle.automata.specs.Live.{count, in?}
+use Rattle.automata.specs.LiveSets.{SetAfter, liveSets}
 use Rattle.automata.specs.Pairs.{Right, SomePair, pairOf, pairs, verdict}
 use Rattle.automata.specs.Performing.{Move, perform, successors}
 use Rattle.automata.specs.Search.{Entry, Finds, Over, entries, firstOf, leads}
@@ -26,10 +28,12 @@ use Rattle.automata.proofs.CountingLaws.{counts-unique, not-more}
 use Rattle.automata.proofs.ExampleLaws.{rows-hold}
 use Rattle.automata.proofs.ExplorationLaws.{known-distinct, known-sound, walk-counts, walk-more}
 use Rattle.automata.proofs.LanguageLaws.{closure-language, concatenation-language, intersection-language, unfolded-language, union-language}
+use Rattle.automata.proofs.LengthLaws.{accepted-counts, both-many, letterless, rejected-counts}
+use Rattle.automata.proofs.LiveSetLaws.{sets-more}
 use Rattle.automata.proofs.MembershipLaws.{acceptedBytes-iff, live-counts, liveCount-counts}
 use Rattle.automata.proofs.PairLaws.{pairs-more}
 use Rattle.automata.proofs.PlainArcLaws.{leaving-passing}
-use Rattle.automata.proofs.PairSets.{live-configuration, same-pair}
+use Rattle.automata.proofs.PairSets.{live-configuration, same-live, same-pair}
 use Rattle.automata.proofs.PerformingLaws.{perform-iff, successors-iff}
 use Rattle.automata.proofs.ReachLaws.{configurations-count, configurations-more}
 use Rattle.automata.proofs.SearchLaws.{entry-true, first-found, word-met}
@@ -109,6 +113,11 @@ module _ (x : Automaton) (L : ℕ) (fits : length (configurations x L) ≤ L) wh
   pub living-counts : (w : List ℕ) → Exactly (λ (c : Configuration). Run (Produces x) (start x) w c) (count (liveSet x L w))
   living-counts = live-counts x L fits
 
+  -- Two words have one live set just if runs that spell them end in the same configurations (PairSets).
+  pub living-same : (v w : List ℕ) → (liveSet x L v ≡ liveSet x L w) ↔ SameEnds x v w
+  unfolding liveSet
+  living-same = same-live x L fits
+
   -- A word of bytes is computed to be accepted just if it is in the language; the number live is that of its live set.
   pub membership : Apart (x .alphabet) → (s : List ℕ) → (T (acceptedBytes x L s) ↔ Language x s) × Exactly (LiveAfter x s) (liveCount x L s)
   membership apart s = (acceptedBytes-iff x apart L fits s, liveCount-counts x apart L fits s)
@@ -116,6 +125,22 @@ module _ (x : Automaton) (L : ℕ) (fits : length (configurations x L) ≤ L) wh
   -- The unfolded automaton has exactly the same words (UnfoldedLaws, LanguageLaws).
   pub unfolding-language : (s : List ℕ) → Language (unfolded x L) s ↔ Language x s
   unfolding-language = unfolded-language x L fits
+
+  -- The numbers of words of n letters that are accepted, and that are not, are those numbers (LengthLaws); words count, not runs.
+  pub counting-words : (n : ℕ) → Exactly (AcceptedOf x n) (acceptedMany x L n) × Exactly (RejectedOf x n) (rejectedMany x L n)
+  counting-words n = (accepted-counts x L fits n, rejected-counts x L fits n)
+
+-- The two together are all words of n letters: with no letters one word of length 0, and none of any other. Beyond P there are more live
+-- sets of v and some letters more (LiveSetLaws: refusal 23).
+pub counting-all : (x : Automaton) (L n : ℕ) → acceptedMany x L n + rejectedMany x L n ≡ letters x ^ n
+counting-all = both-many
+
+pub counting-letterless : (x : Automaton) (L : ℕ) → letters x ≡ 0
+    → (acceptedMany x L 0 + rejectedMany x L 0 ≡ 1) × ((n : ℕ) → acceptedMany x L (suc n) + rejectedMany x L (suc n) ≡ 0)
+counting-letterless = letterless
+
+pub counting-more : (x : Automaton) (L : ℕ) (v : List ℕ) (P : ℕ) → (P < length (liveSets x L (liveSet x L v) P)) ↔ MoreThan (SetAfter x L v) P
+counting-more = sets-more
 
 -- ---- the joins, of automata with one alphabet, for words of every length (LanguageLaws)
 module _ (a b : Automaton) (va : WellFormed a) (vb : WellFormed b) (shared : b .alphabet ≡ a .alphabet) where
@@ -142,8 +167,7 @@ comparing-more = pairs-more
 
 -- Two words have one pair just if the same configurations are live after both, in each automaton (PairSets).
 pub pairing : (x y : Automaton) (L : ℕ) → length (configurations x L) ≤ L → length (configurations y L) ≤ L → (w v : List ℕ)
-    → (pairOf x y L w ≡ pairOf x y L v)
-    ↔ (((c : Configuration) → Run (Produces x) (start x) w c ↔ Run (Produces x) (start x) v c) × ((c : Configuration) → Run (Produces y) (start y) w c ↔ Run (Produces y) (start y) v c))
+    → (pairOf x y L w ≡ pairOf x y L v) ↔ (SameEnds x w v × SameEnds y w v)
 pairing = same-pair
 
 -- ---- document 01's table (ExampleLaws)

@@ -3,7 +3,7 @@
 -- reading: a run needs no final state at its end, and no operation of a well-formed automaton changes register 0. No algorithm stands
 -- here.
 use mathlib.Core.Path.{_≡_}
-use mathlib.Core.Logic.{_≢_}
+use mathlib.Core.Logic.{_↔_, _≢_}
 use Prim.Native.Nat.{ℕ, zero, suc, _<_}
 use mathlib.Core.List.{List, [], _∷_, List·Memᴰ}
 use mathlib.Core.Option.{Option, none, some}
@@ -77,6 +77,10 @@ pub data Run {X : Type 0} (Moves : X → Option ℕ → X → Type 0) : X → Li
 pub record Reachable (x : Automaton) (c : Configuration) : Type 0 where
   pub word : List ℕ
   pub run : Run (Produces x) (start x) word c
+
+-- the runs that spell v and those that spell w end in the same configurations
+abbrev pub SameEnds : Automaton → (v w : List ℕ) → Type 0
+SameEnds x v w = (c : Configuration) → Run (Produces x) (start x) v c ↔ Run (Produces x) (start x) w c
 
 -- state s is final
 abbrev pub Final : Automaton → ℕ → Type 0

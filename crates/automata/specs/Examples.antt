@@ -1,5 +1,5 @@
 -- Examples: document 01's automata T, V, K and S, and its table of checked words and automata ('Checked slips and books'); document 02's
--- example of the word that is shown (change 1).
+-- examples of the word that is shown (change 1) and of the words of one length (change 2).
 -- proofs/ExampleLaws.antt has the one theorem over the rows.
 use Prim.Native.Nat.{ℕ}
 use mathlib.Core.Path.{_≡_}
@@ -10,6 +10,7 @@ use lib.ListN.{length}
 use Rattle.automata.specs.Counting.{Exactly}
 use Rattle.automata.specs.Automaton.{Op, reads, writes, Arc, Automaton, Reachable}
 use Rattle.automata.specs.Words.{Language}
+use Rattle.automata.specs.Lengths.{AcceptedOf, RejectedOf}
 use Rattle.automata.specs.Pairs.{Right, Verdict, different, same}
 use Rattle.automata.specs.Unfolding.{plainArcs, readZero, unfolded}
 use Rattle.automata.specs.Joins.{arcFrom, concatenation, intersection, closure}
@@ -67,12 +68,18 @@ automatonK = record { alphabet = c ∷ []; registers = 2; symbols = 2; finals = 
 unfoldable pub automatonS : Automaton
 automatonS = record { alphabet = a ∷ b ∷ []; registers = 1; symbols = 1; finals = false ∷ true ∷ []; arcs = arc 0 0 0 readZero ∷ arc 0 1 1 readZero ∷ [] }
 
+-- no letters, one state, which is final
+unfoldable pub wordless : Automaton
+wordless = record { alphabet = []; registers = 1; symbols = 1; finals = true ∷ []; arcs = [] }
+
 -- ---- the table
--- a row: an automaton and a word that it accepts or rejects, or the number of its configurations or of its plain arcs
+-- a row: an automaton and a word that it accepts or rejects, or the number of its configurations or of its plain arcs; two automata and
+-- their verdict; an automaton, a length, and how many words of that length it accepts and rejects
 pub data Row : Type 0 where
   accepts rejects : (x : Automaton) (word : List ℕ) → Row
   reaches unfolds-to : (x : Automaton) (many : ℕ) → Row
   compare-to : (x y : Automaton) (v : Verdict) → Row
+  counts-to : (x : Automaton) (size accepted rejected : ℕ) → Row
 
 -- what a row says; L is the limit on configurations. A verdict has its word by the numbers of the letters
 abbrev pub Holds : ℕ → Row → Type 0
@@ -81,10 +88,12 @@ Holds L (rejects x w) = ¬ Language x w
 Holds L (reaches x n) = Exactly (Reachable x) n
 Holds L (unfolds-to x n) = length (plainArcs x L) ≡ n
 Holds L (compare-to x y v) = Right x y L v
+Holds L (counts-to x n k m) = Exactly (AcceptedOf x n) k × Exactly (RejectedOf x n) m
 
--- document 01's checked words and automata; last, document 02's example: the first difference of U and T is ce, and never ec
+-- document 01's checked words and automata; last, document 02's examples: the first difference of U and T is ce, and never ec; of the
+-- words of 3 letters T accepts 2 and rejects 25; with no letters there is one word of length 0, and none of any other
 unfoldable pub rows : List Row
-unfolding automatonT automatonV automatonU automatonK automatonS concatenation intersection closure unfolded
+unfolding automatonT automatonV automatonU automatonK automatonS wordless concatenation intersection closure unfolded
 rows = accepts automatonT (c ∷ c ∷ [])
     ∷ accepts automatonT (c ∷ m ∷ m ∷ c ∷ [])
     ∷ accepts automatonT (e ∷ m ∷ e ∷ [])
@@ -101,4 +110,7 @@ rows = accepts automatonT (c ∷ c ∷ [])
     ∷ rejects (intersection automatonT automatonV) (e ∷ e ∷ [])
     ∷ compare-to automatonT (unfolded automatonT 256) (same 6)
     ∷ compare-to automatonT automatonV (different 6 1 (1 ∷ 1 ∷ []))
-    ∷ compare-to automatonU automatonT (different 8 1 (0 ∷ 1 ∷ [])) ∷ []
+    ∷ compare-to automatonU automatonT (different 8 1 (0 ∷ 1 ∷ []))
+    ∷ counts-to automatonT 3 2 25
+    ∷ counts-to wordless 0 1 0
+    ∷ counts-to wordless 1 0 0 ∷ []

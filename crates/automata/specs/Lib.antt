@@ -9,6 +9,8 @@ pub mod Live
 pub mod Unfolding
 pub mod Search
 pub mod Pairs
+pub mod LiveSets
+pub mod Lengths
 pub mod Languages
 pub mod Joins
 pub mod Examples

@@ -1,4 +1,4 @@
-// A refusal in words: document 01's numbers 1 to 11 and 21 to 25.
+// A refusal in words: document 01's numbers 1 to 11 and 21 to 25, and document 02's 31.
 use super::files::save_front;
 use super::words::say;
 use super::words::say_argument;
@@ -42,12 +42,19 @@ fn say_limit(file: i32, number: u8) -> bool {
             file,
             b"more than 2048 plain arcs: passing arcs, counted at each configuration",
         ),
-        23 => say(file, b"words lead to more than 512 pairs of live sets"),
+        23 => say(
+            file,
+            b"words lead to more than 512 live sets, or to more than 512 pairs of them where two automata are compared",
+        ),
         24 => say(
             file,
             b"less working memory than 8192 words, or less room for a word than 512 bytes",
         ),
         25 => say(file, b"less room than the result has bytes"),
+        31 => say(
+            file,
+            b"the length is above 64, or more than 18446744073709551615 words have it",
+        ),
         _ => say(file, b"no such refusal"),
     }
 }

@@ -2,19 +2,20 @@
 // A record is an operation (1 byte), four numbers of 4 bytes, low byte first, namely the length of the first bytes, the
 // length of the second bytes, number one and number two, and then the first bytes and the second bytes.
 // The run ends where the input ends, also inside a record, at a record that asks for more than the buffers hold, and at
-// an operation that is none of the eight, which the line `unknown` tells.
+// an operation that is none of the nine, which the line `unknown` tells.
 ghost use Prim.Native.Nat.{_<_, _≤_};
 ghost use lib.ListN.{length};
 use file_writing::Written;
 
-// What a record begins with: its operation, the lengths of its first and its second bytes, and how many working words and how many
-// bytes of output or of a word it lends.
+// What a record begins with: its operation, the lengths of its first and its second bytes, how many working words and how many bytes of
+// output or of a word it lends, and how many letters the words have that are to be counted.
 struct Head {
     operation: u8,
     first: usize,
     second: usize,
     words: usize,
     bytes: usize,
+    letters: usize,
 }
 
 // The next record, up to its bytes; or that the input ends before or inside that.
@@ -43,7 +44,7 @@ fn number(head: &[u8; 17], at: usize) -> usize
 // How many working words an operation lends, by the record's number one. Cost: constant.
 fn words_lent(operation: u8, one: usize) -> usize {
     match operation {
-        2 | 7 | 8 => one,
+        2 | 7 | 8 | 9 => one,
         _ => 0,
     }
 }
@@ -74,6 +75,7 @@ fn next_record() -> Record {
         second,
         words: words_lent(operation, one),
         bytes: bytes_lent(operation, one, two),
+        letters: two,
     })
 }
 
@@ -104,10 +106,11 @@ fn written(
     }
 }
 
-// Writes the line of one operation on exactly what its record lends, and answers its length; 0 where there is no such operation.
-// Cost: that of the call, and the line.
+// Writes the line of one operation on exactly what its record lends, and answers its length; 0 where there is no such operation. Only
+// counting looks at `letters`. Cost: that of the call, and the line.
 fn answer(
     operation: u8,
+    letters: usize,
     first: &[u8],
     second: &[u8],
     work: &mut [u64],
@@ -123,6 +126,7 @@ fn answer(
             line_answers::written_line(written(operation, first, second, work, out), out, line)
         }
         8 => line_comparison::case_line(compare::compare(first, second, work, out), out, line),
+        9 => line_counts::word_count_line(count::count_words(first, letters as u64, work), line),
         _ => 0,
     }
 }
@@ -159,6 +163,7 @@ fn lend(
     }
     let n = answer(
         head.operation,
+        head.letters,
         &first[0..a],
         &second[0..b],
         &mut work[0..words],

@@ -13,9 +13,11 @@ use Rattle.automata.specs.Pairs.{Pair, answersPass, differ, different, firstAcc
 use Rattle.automata.specs.Search.{Entry, entries, firstOf}
 use Rattle.automata.specs.Unfolding.{configurations, finalSet, liveSet, plainArcs}
 use Rattle.automata.proofs.Laws.{First, at, firstOf-first, getElem?-lt, getElem?-some, nowhere, shown-many}
-use Rattle.compare_pairs.specs.Entries.{Holds, Side, Tree, along, begin, sideOf}
-use Rattle.compare_pairs.specs.declared.Grown.{Grown}
-use Rattle.compare_search.specs.Searching.{Both, Outcome}
+use Rattle.word_layout.specs.declared.SetTable.{SetTable}
+use Rattle.live_table.specs.Entries.{Holds, Side, Tree, along, begin, sideOf}
+use Rattle.live_table.specs.declared.Grown.{Grown}
+use Rattle.live_letters.specs.Meeting.{Outcome}
+use Rattle.compare_search.specs.Searching.{Both}
 use Rattle.word_sets.specs.Sets.{view}
 use Rattle.compare_witness.specs.Spelled.{alone, differsBy, takerBy, wordOf}
 use Rattle.compare_witness.proofs.Laws.{Judges, judge-entry, spelled-word}
@@ -79,8 +81,8 @@ module _ {x y : Automaton} {L : ℕ} {w₀ : List ℕ} {one two : Standing} {byt
   }
 
   -- what searching leaves
-  pub outcome : (w : List ℕ) (r : Grown) → ((s t : Side) → Both (length bytes) s t w₀ (one .block) (two .block) → Outcome P s t w (entries samePair (along s t) (length bytes) (begin s t) P) r) → Outcome P s t w es r
-  outcome w r h = subst (λ (a : ℕ). Outcome P s t w (entries samePair (along s t) a (begin s t) P) r) many-letters (h s t both)
+  pub outcome : (tab : SetTable) (w : List ℕ) (r : Grown) → ((s t : Side) → Both (length bytes) s t w₀ (one .block) (two .block) → Outcome P tab s t w (entries samePair (along s t) (length bytes) (begin s t) P) r) → Outcome P tab s t w es r
+  outcome tab w r h = subst (λ (a : ℕ). Outcome P tab s t w (entries samePair (along s t) a (begin s t) P) r) many-letters (h s t both)
 
   -- ---- the definition's pairs
   shown-is : shown x y L P ≡ es
@@ -118,7 +120,7 @@ module _ {x y : Automaton} {L : ℕ} {w₀ : List ℕ} {one two : Standing} {byt
   answer-many old h = answers-many x y L P old (omega (arith, pairs-many))
 
   -- the table has n pairs, and the first that differs is pair i
-  module _ {w : List ℕ} {n : ℕ} (h : Holds s t w n es) (most : n ≤ P) (i : ℕ) (found : firstOf (λ (e : Entry Pair). differsBy F G (e .state)) es ≡ getElem? es i) where
+  module _ {tab : SetTable} {w : List ℕ} {n : ℕ} (h : Holds tab s t w n es) (most : n ≤ P) (i : ℕ) (found : firstOf (λ (e : Entry Pair). differsBy F G (e .state)) es ≡ getElem? es i) where
     few : length (pairs x y L P) ≤ P
     few = omega (arith, pairs-many, h .many)
 
@@ -130,12 +132,12 @@ module _ {x y : Automaton} {L : ℕ} {w₀ : List ℕ} {one two : Standing} {byt
         nothing none z = refl
         nothing (some u) z = absurd (omega (arith, getElem?-lt es i z, h .many))
 
-    pub answer-different : (a : ℕ) (old new : List ℕ) (taker size : ℕ) → i < n → Tree a w n → Judges w i (one .finals) (two .finals) taker → size ≡ length (wordOf w i)
-        → new ≡ map (λ (l : ℕ). getD bytes l 0) (wordOf w i) ++ drop size old → Answers L P (countRefusals L P x y) x y old new (Different n taker size)
+    pub answer-different : (a : ℕ) (old new : List ℕ) (taker size : ℕ) → i < n → Tree a tab w n → Judges tab w i (one .finals) (two .finals) taker → size ≡ length (wordOf tab w i)
+        → new ≡ map (λ (l : ℕ). getD bytes l 0) (wordOf tab w i) ++ drop size old → Answers L P (countRefusals L P x y) x y old new (Different n taker size)
     unfolding verdict judged
     answer-different a old new taker size low tree told long put =
-        answers-different x y L P old new n taker size (wordOf w i) few is long
-        (put ∙ ap (λ (b : List ℕ). map (λ (l : ℕ). getD b l 0) (wordOf w i) ++ drop size old) (c .spelled))
+        answers-different x y L P old new n taker size (wordOf tab w i) few is long
+        (put ∙ ap (λ (b : List ℕ). map (λ (l : ℕ). getD b l 0) (wordOf tab w i) ++ drop size old) (c .spelled))
       where
         e : Entry Pair
         e = getElem?-some es i (omega (arith, h .many)) .0
@@ -144,9 +146,9 @@ module _ {x y : Automaton} {L : ℕ} {w₀ : List ℕ} {one two : Standing} {byt
         stands = getElem?-some es i (omega (arith, h .many)) .1
 
         who : takerOf x y L (e .state) ≡ taker
-        who = sym (taker-is (e .state) (first-passes e (firstOf-first (λ (e : Entry Pair). differsBy F G (e .state)) es) (found ∙ stands))) ∙ judge-entry w i n (one .finals) (two .finals) taker told s t es e h stands
+        who = sym (taker-is (e .state) (first-passes e (firstOf-first (λ (e : Entry Pair). differsBy F G (e .state)) es) (found ∙ stands))) ∙ judge-entry tab w i n (one .finals) (two .finals) taker told s t es e h stands
 
-        is : verdict x y L P ≡ different n taker (wordOf w i)
+        is : verdict x y L P ≡ different n taker (wordOf tab w i)
         is =
             ap₂ (judged x y L) (pairs-many ∙ h .many) (difference-is ∙ found ∙ stands)
-            ∙ ap₂ (different n) who (sym (spelled-word w a n tree s t es h i i e low (omega arith) stands))
+            ∙ ap₂ (different n) who (sym (spelled-word tab w a n tree s t es h i i e low (omega arith) stands))

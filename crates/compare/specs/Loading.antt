@@ -1,7 +1,7 @@
 -- Loading: what the words hold of an automaton that is loaded, and of two that are ready to be compared, by the table's face.
 use mathlib.Core.Path.{_≡_}
 use mathlib.Core.List.{List}
-use Prim.Native.Nat.{ℕ}
+use Prim.Native.Nat.{_≤_, ℕ}
 use lib.ListN.{length}
 use Rattle.automata.specs.Automaton.{Automaton, letters}
 use Rattle.automata.specs.Unfolding.{configurations, finalSet, plainArcs}
@@ -13,9 +13,10 @@ use Rattle.compare_promise.specs.Comparing.{limitRefusals}
 use Rattle.compare.specs.declared.loading.Standing.{Standing}
 use Rattle.compare.specs.declared.loading.Loaded.{Loaded}
 
--- the block tells the plain arcs of x between its configurations, numbered up to L of them, and the set is that of its final ones
+-- the block tells the plain arcs of x between its configurations, numbered up to L of them, by a list, and the set is that of its final ones
 pub record Prepared (x : Automaton) (L : ℕ) (w : List ℕ) (s : Standing) : Type 0 where
   pub many : s .block .count ≡ length (configurations x L)
+  pub few : s .block .plain ≤ 2048
   pub tells : Tells (letters x) (plainArcs x L) w (s .block)
   pub final : view (s .block .count) (s .finals) ≡ finalSet x (configurations x L)
 

@@ -9,11 +9,12 @@ ghost use Rattle.compare.specs.Answers.{Answers};
 ghost use Rattle.compare.specs.Loading.{Comparable};
 use super::Comparison;
 use super::loading::Standing;
-use compare_pairs::Grown;
 use compare_search::explore_pairs;
+use compare_search::pair_table;
 use compare_witness::first_difference;
 use compare_witness::judge_pair;
 use compare_witness::put_word;
+use live_table::Grown;
 
 // All pairs are explored, whether or not one of them differs, and the first that differs is shown. The letters are those of both.
 // Refuses 23: more than 512 pairs.
@@ -37,12 +38,13 @@ pub fn decide(
             automaton: 0,
         };
     };
-    let i = first_difference(w, n, f, g);
+    let t = pair_table();
+    let i = first_difference(w, t, n, f, g);
     if i == n {
         return Comparison::Same(n as u64);
     }
-    let taker = judge_pair(w, i, f, g);
-    let length = put_word(w, letters.len(), n, i, letters, word);
+    let taker = judge_pair(w, t, i, f, g);
+    let length = put_word(w, t, letters.len(), n, i, letters, word);
     Comparison::Different {
         pairs: n as u64,
         taker,

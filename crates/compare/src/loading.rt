@@ -7,11 +7,11 @@ ghost use Rattle.format.specs.Reading.{readingOf};
 ghost use Rattle.word_fields.specs.Frame.{KeptBut};
 ghost use Rattle.word_layout.specs.Layout.{blockEnd, firstBlock};
 ghost use Rattle.compare.specs.Loading.{Loads};
-use compare_prune::prune;
 use format::Counts;
 use table::block::build;
 use table::finals::final_configurations;
 use table_explore::Explored;
+use table_prune::prune;
 use word_layout::Block;
 use word_layout::FIRST_SETS;
 
@@ -63,6 +63,15 @@ pub fn load(file: &[u8], c: Counts, w: &mut [u64], base: usize) -> Loaded
         return refused(22);
     }
     let finals = final_configurations(file, c, w, count);
+    // Where there are so few, pruning leaves all; asked here, its call is not made.
+    if plain < 2 * count {
+        let block = Block { base, count, plain };
+        let standing = Standing { block, finals };
+        return Loaded {
+            refusal: 0,
+            standing,
+        };
+    }
     let block = prune(w, Block { base, count, plain }, FIRST_SETS);
     let standing = Standing { block, finals };
     Loaded {

@@ -7,7 +7,7 @@ use Prim.Native.Nat.{ℕ, _<_, _≤_}
 use native.Mathlib.Omega.{arith}
 use lib.ListN.{drop, length, length-append, length-map, take}
 use lib.Seq.{drop-at, take-at}
-use Rattle.automata.specs.Automaton.{Automaton, WellFormed}
+use Rattle.automata.specs.Automaton.{Automaton, SameEnds, WellFormed}
 use Rattle.automata.specs.Pairs.{Right, Verdict, different, pairOf, pairs, same, verdict}
 use Rattle.automata.specs.Unfolding.{configurations, plainArcs}
 use Rattle.automata.specs.WordOrder.{BeforeIn, Earliest}
@@ -17,7 +17,7 @@ use Rattle.format.specs.Decoding.{automatonOf}
 use Rattle.format.specs.Refusals.{FirstHolds, faultOf, unlessRefused}
 use Rattle.file_laws.proofs.Laws.{NoneHolds, Outcome, at-least, first-exactly, first-some, no-fault, none-first, refused-or-not, same-letters, valid-automaton}
 use Rattle.compare_promise.specs.Comparing.{answerOf, bufferOf, bytesIn, comparisonOf, refusals, shownWord, told}
-use Rattle.compare_promise.specs.Promised.{Either, Equivalent, Premises, Promised, SameEnds, conditions}
+use Rattle.compare_promise.specs.Promised.{Either, Equivalent, Premises, Promised, conditions}
 use Rattle.compare_promise.specs.declared.Comparison.{Comparison}
 use Rattle.compare_promise.specs.declared.Comparison.the-variants.{Refused}
 use Rattle.compare_promise.proofs.Refusals.{refusals-decide}

@@ -1,22 +1,15 @@
 -- Refusals: the tests of comparing decide the conditions of its refusals.
-use mathlib.Core.Logic.{_↔_, _⊎_, inl, inr, ⊎-elim}
-use mathlib.Core.Bool.{_||_}
 use mathlib.Core.List.{List}
-use Prim.Native.Nat.{ℕ, _<_}
+use Prim.Native.Nat.{ℕ}
 use native.Mathlib.Omega.{arith}
-use lib.Dec.{T, ltb, ltb→lt, lt→ltb}
 use lib.ListN.{length}
 use Rattle.automata.specs.Automaton.{Automaton}
 use Rattle.automata.specs.Unfolding.{plainArcs}
-use Rattle.automata.proofs.Laws.{comparing-more, iff-trans, or-iff}
+use Rattle.automata.proofs.Laws.{comparing-more, iff-trans}
 use Rattle.format.specs.Decoding.{automatonOf}
-use Rattle.file_laws.proofs.Laws.{Decide, decided, fault-decided, less-decided, less-iff, letters-decided, reach-decided}
+use Rattle.file_laws.proofs.Laws.{Decide, decided, either-less, fault-decided, less-decided, less-iff, letters-decided, reach-decided}
 use Rattle.compare_promise.specs.Comparing.{countRefusals, limitRefusals, refusals, tableRefusals}
 use Rattle.compare_promise.specs.Promised.{conditions, tableConditions}
-
--- one number is less than another, or a second one is
-either-less : (k l m n : ℕ) → T (ltb k l || ltb m n) ↔ ((k < l) ⊎ (m < n))
-either-less k l m n = iff-trans (or-iff (ltb k l) (ltb m n)) (⊎-elim (λ t. inl (ltb→lt k l t)) (λ t. inr (ltb→lt m n t)), ⊎-elim (λ t. inl (lt→ltb k l t)) (λ t. inr (lt→ltb m n t)))
 
 tables-decided : (x y : Automaton) → Decide (tableRefusals 256 2048 512 x y) (tableConditions x y)
 unfolding tableRefusals limitRefusals countRefusals

@@ -8,7 +8,7 @@ use mathlib.Core.List.{List, [], _∷_}
 use Prim.Native.Nat.{ℕ, _≤_, _<_}
 use lib.Dec.{T}
 use lib.ListN.{drop, length, take}
-use Rattle.automata.specs.Automaton.{Automaton, Configuration, Produces, Reachable, Run, start}
+use Rattle.automata.specs.Automaton.{Automaton, Reachable, SameEnds}
 use Rattle.automata.specs.Counting.{Exactly, MoreThan}
 use Rattle.automata.specs.Pairs.{SomePair, pairOf}
 use Rattle.automata.specs.Unfolding.{plainArcs}
@@ -60,10 +60,6 @@ Equivalent x y = (word : List ℕ) → Language x word ↔ Language y word
 -- one of two holds, and the other does not
 abbrev pub Either : Type 0 → Type 0 → Type 0
 Either A B = (A × ¬ B) ⊎ (B × ¬ A)
-
--- the runs that spell v and those that spell w end in the same configurations
-abbrev pub SameEnds : Automaton → (v w : List ℕ) → Type 0
-SameEnds x v w = (c : Configuration) → Run (Produces x) (start x) v c ↔ Run (Produces x) (start x) w c
 
 -- what is promised of two files, a number of working words, the buffer lent, the buffer afterwards, and the answer as it is told
 pub record Promised (first second : List ℕ) (words : ℕ) (old new : List ℕ) (t : Told) : Type 0 where

@@ -1,5 +1,4 @@
-pub mod TableFrames
-pub mod MeetPair
-pub mod MeetLetters
+pub mod BlockFrames
 pub mod ExpandPair
-pub mod ExploreFrom
+pub mod FirstPair
+pub mod Laws

@@ -1,4 +1,4 @@
 pub mod FirstDifference
-pub mod WordOfPair
+pub mod WordOfRow
 pub mod PutWord
 pub mod Laws

@@ -2,7 +2,7 @@
 -- specs/Refusals.antt).
 use mathlib.Core.Path.{_≡_, _∙_, ap, ap₂, refl, subst, sym}
 use mathlib.Core.Logic.{_↔_, _⊎_, _≢_, inl, inr, ⊎-elim}
-use mathlib.Core.Bool.{Bool, cond, false, not, true}
+use mathlib.Core.Bool.{Bool, _||_, cond, false, not, true}
 use mathlib.Core.List.{List, [], _∷_}
 use Prim.Native.Nat.{ℕ, _<_, _≤_}
 use native.Mathlib.Decide.{decLt}
@@ -13,7 +13,7 @@ use Rattle.automata.specs.Automaton.{Automaton, Reachable}
 use Rattle.automata.specs.Counting.{MoreThan}
 use Rattle.automata.specs.Lists.{sameBy}
 use Rattle.automata.specs.Unfolding.{configurations}
-use Rattle.automata.proofs.Laws.{eqb-iff, iff-trans, not-iff, reaching-more, sameBy-iff}
+use Rattle.automata.proofs.Laws.{eqb-iff, iff-trans, not-iff, or-iff, reaching-more, sameBy-iff}
 use Rattle.file_fields.specs.Parts.{numberOf}
 use Rattle.format.specs.Reading.{readingOf}
 use Rattle.format.specs.Refusals.{FirstHolds, faultOf, unlessRefused}
@@ -89,6 +89,10 @@ less-iff m n = (ltb→lt m n, lt→ltb m n)
 -- one number is less than another
 pub less-decided : (i j n k : ℕ) → 0 < n → Decides (ltb i j, n, k) (i < j, n, k)
 less-decided i j n k h = decided _ n k (less-iff i j) (λ _. h)
+
+-- one number is less than another, or a second one is
+pub either-less : (k l m n : ℕ) → T (ltb k l || ltb m n) ↔ ((k < l) ⊎ (m < n))
+either-less k l m n = iff-trans (or-iff (ltb k l) (ltb m n)) (⊎-elim (λ t. inl (ltb→lt k l t)) (λ t. inr (ltb→lt m n t)), ⊎-elim (λ t. inl (lt→ltb k l t)) (λ t. inr (lt→ltb m n t)))
 
 pub at-least : (m n : ℕ) → ¬ (m < n) → n ≤ m
 at-least m n h = go (decLt m n)

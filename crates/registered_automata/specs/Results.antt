@@ -9,9 +9,12 @@ use Rattle.file_writing.specs.declared.Written.{Written as WrittenAnswer}
 use Rattle.file_writing.specs.Answers.{told as toldWritten}
 use Rattle.compare_promise.specs.declared.Comparison.{Comparison as ComparisonAnswer}
 use Rattle.compare_promise.specs.Comparing.{told as toldComparison}
+use Rattle.count_promise.specs.declared.WordCount.{WordCount as WordCountAnswer}
+use Rattle.count_promise.specs.WordCounts.{told as toldWordCount}
 use Rattle.registered_automata.specs.declared.results.Comparison.{Comparison}
 use Rattle.registered_automata.specs.declared.results.Reading.{Reading}
 use Rattle.registered_automata.specs.declared.results.Membership.{Membership}
+use Rattle.registered_automata.specs.declared.results.WordCount.{WordCount}
 use Rattle.registered_automata.specs.declared.results.Written.{Written}
 
 -- of reading
@@ -40,3 +43,7 @@ writtenFields r = let t = toldWritten r in record { length = t .size; number = t
 -- of comparing; a taker of 0 stands for the same words
 abbrev pub comparisonFields : ComparisonAnswer → Comparison
 comparisonFields r = let t = toldComparison r in record { pairs = t .pairs; length = t .size; number = t .number; automaton = t .at-fault; taker = t .taker }
+
+-- of counting
+abbrev pub wordCountFields : WordCountAnswer → WordCount
+wordCountFields r = let t = toldWordCount r in record { accepted = t .accepted; rejected = t .rejected; number = t .number; automaton = t .at-fault }

@@ -12,14 +12,17 @@ ghost use Rattle.file_writing.specs.Answers.{outputOf};
 ghost use Rattle.join_parts.specs.Joining.{joinedOf, closedOf};
 ghost use Rattle.unfold.specs.Unfolding.{unfoldingOf};
 ghost use Rattle.compare_promise.specs.Comparing.{bufferOf, comparisonOf, shownWord};
-ghost use Rattle.registered_automata.specs.Results.{readingFields, membershipFields, writtenFields, comparisonFields};
+ghost use Rattle.count_promise.specs.WordCounts.{wordCountOf};
+ghost use Rattle.registered_automata.specs.Results.{readingFields, membershipFields, writtenFields, comparisonFields, wordCountFields};
 use results::Comparison;
 use results::Membership;
 use results::Reading;
+use results::WordCount;
 use results::Written;
 use results::as_comparison;
 use results::as_membership;
 use results::as_reading;
+use results::as_word_count;
 use results::as_written;
 
 pub mod results;
@@ -100,4 +103,13 @@ pub extern "C" fn ra_compare(
     ensures shown { λ _. ⌜ now (word .exit) ≡ bufferOf (comparisonOf (now (first .entry)) (now (second .entry)) (length (now (work .entry))) (length (now (word .entry)))) (shownWord (now (first .entry)) (now (second .entry))) (now (word .entry)) ⌝ }
 {
     as_comparison(compare::compare(first, second, work, word))
+}
+
+// How many words of `size` letters does the automaton of the file accept, and how many not? Refusals and cost: `count::count_words`.
+#[no_mangle]
+pub extern "C" fn ra_count_words(file: &[u8], size: u64, work: &mut [u64]) -> WordCount
+    ensures same { λ _. ⌜ length (now (work .exit)) ≡ length (now (work .entry)) ⌝ }
+    ensures answer { λ r. ⌜ r ≡ wordCountFields (wordCountOf (now (file .entry)) size (length (now (work .entry)))) ⌝ }
+{
+    as_word_count(count::count_words(file, size, work))
 }

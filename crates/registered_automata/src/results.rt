@@ -1,6 +1,6 @@
 // The answers as other languages take them: structs of numbers with the layout of C, and the struct that tells each answer.
 ghost use mathlib.Core.Path.{_≡_};
-ghost use Rattle.registered_automata.specs.Results.{readingFields, membershipFields, writtenFields, comparisonFields};
+ghost use Rattle.registered_automata.specs.Results.{readingFields, membershipFields, writtenFields, comparisonFields, wordCountFields};
 
 // The counts of a valid file, with number 0; or the number of the fault, its place in bytes from the file's start, the automaton at
 // fault, which is 1, and counts of 0.
@@ -43,6 +43,16 @@ pub struct Comparison {
     pub number: u8,
     pub automaton: u8,
     pub taker: u8,
+}
+
+// How many words of the length are accepted and how many are not, with number 0; or the number of the refusal and the automaton at
+// fault, and 0 elsewhere.
+#[repr(C)]
+pub struct WordCount {
+    pub accepted: u64,
+    pub rejected: u64,
+    pub number: u8,
+    pub automaton: u8,
 }
 
 // The struct of what reading answers. Cost: constant.
@@ -146,6 +156,26 @@ pub fn as_comparison(r: compare::Comparison) -> Comparison
             number,
             automaton,
             taker: 0,
+        },
+    }
+}
+
+// The struct of what counting answers. Cost: constant.
+pub fn as_word_count(r: count_promise::WordCount) -> WordCount
+    ensures { λ x. ⌜ x ≡ wordCountFields r ⌝ }
+{
+    match r {
+        count_promise::WordCount::Counted { accepted, rejected } => WordCount {
+            accepted,
+            rejected,
+            number: 0,
+            automaton: 0,
+        },
+        count_promise::WordCount::Refused { number, automaton } => WordCount {
+            accepted: 0,
+            rejected: 0,
+            number,
+            automaton,
         },
     }
 }

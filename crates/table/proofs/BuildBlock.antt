@@ -15,7 +15,7 @@ use lib.ListN.{getD, getElem?, length}
 use lib.Seq.{take-all}
 use Rattle.automata.specs.Automaton.{Automaton, Configuration, Run, letters, silent, stay}
 use Rattle.automata.specs.Lists.{countFrom}
-use Rattle.automata.specs.Live.{Moves, PlainArc, live}
+use Rattle.automata.specs.Live.{Moves, PlainArc}
 use Rattle.automata.specs.Unfolding.{configurations, plainAll, plainArcs}
 use Rattle.automata.proofs.Laws.{at-map, at-mem, first-configuration, getElem?-lt, getElem?-some, iff-trans, mem-at, within}
 use Rattle.table_explore.specs.Explores.{Explores, Walked, exploredOf, startOf}
@@ -26,9 +26,8 @@ use Rattle.format.specs.Encoding.{letterByte}
 use Rattle.word_fields.specs.Fields.{field}
 use Rattle.word_fields.specs.Frame.{Kept}
 use Rattle.word_fields.proofs.Laws.{field-same, part-same}
-use Rattle.word_sets.specs.Sets.{εClosedSet, view}
-use Rattle.word_rows.specs.Rows.{Link, Closure, here, next, related, row}
-use Rattle.table_sets.proofs.Laws.{held-each, row-live}
+use Rattle.word_rows.specs.Rows.{Link, Closure, here, next, related}
+use Rattle.table_sets.proofs.Laws.{held-each}
 use Rattle.table_sets.specs.Stepping.{Among, endAt, startAt}
 use Rattle.table.specs.Built.{Built, Stored}
 use Rattle.table.proofs.PlainPlaces.{before-le, before-rises, source-at}
@@ -126,14 +125,19 @@ module _ (x : Automaton) (L : ℕ) (fits : length (configurations x L) ≤ L) {w
   )
 
   -- THE LAW of building.
-  pub built : letters x ≤ 255 → Built x L w' base count plain
+  pub built : letters x ≤ 255 → Built x L w' (record { base = base; count = count; plain = plain })
   unfolding startOf plainArcs
   built short = record {
     many = many;
     ended = rw many fits;
-    rows = rows-run;
-    held = λ h. held-each inside (covers short h);
-    starts = λ h. record { few = few; less = h; zero = λ l. start-is h 0 l; each = λ c l. omega (arith, start-is h c l, before-le x (configurations x L) 0 (configurations x L) c); rises = λ c l. omega (arith, start-is h c l, end-is h c l, before-rises x (configurations x L) 0 (configurations x L) c) };
+    tells = record {
+      some = rw many (getElem?-lt (configurations x L) 0 (first-configuration x L fits));
+      few = few;
+      within = inside;
+      rows = rows-run;
+      held = λ h. held-each inside (covers short h);
+      listed = λ h. record { few = few; less = h; zero = λ l. start-is h 0 l; each = λ c l. omega (arith, start-is h c l, before-le x (configurations x L) 0 (configurations x L) c); rises = λ c l. omega (arith, start-is h c l, end-is h c l, before-rises x (configurations x L) 0 (configurations x L) c) };
+    };
   }
 
 -- ---- from the answer of exploring
@@ -161,7 +165,7 @@ explored-many x L e = go (decLt L n)
 
 -- What exploring leaves is built once the rows are closed.
 pub explored-built : (x : Automaton) (L : ℕ) {w w' : List ℕ} {base count plain : ℕ} → Explores x L w base (Tables count plain) → count ≤ 256 → mapEnd ≤ base → Kept base (base + 4 * count) w w'
-    → ((i j : ℕ) → i < count → T (related w' base i j) ↔ Closure (Link count (related w base)) i j) → letters x ≤ 255 → Built x L w' base count plain
+    → ((i j : ℕ) → i < count → T (related w' base i j) ↔ Closure (Link count (related w base)) i j) → letters x ≤ 255 → Built x L w' (record { base = base; count = count; plain = plain })
 explored-built x L {count = count} {plain} found few above kept closed short =
     let a = explored-few x L count plain (found .answer) in
     built x L (a .0) (a .1) (a .2) few above (found .block) kept closed short
@@ -172,12 +176,3 @@ stored-kept x L w w' count e f t = part-same w w' configs count e f ∙ t
 
 pub explored-stored : (x : Automaton) (L : ℕ) {w w' : List ℕ} {base count plain : ℕ} → Explores x L w base (Tables count plain) → count ≤ 256 → mapEnd ≤ base → Kept base (base + 4 * count) w w' → Stored x L w' count
 explored-stored x L {w} {w'} {count = count} found few above kept = stored-kept x L w w' count (kept .long) (λ i h. kept .below (configs + i) (omega arith)) (found .block .table)
-
--- There is a configuration.
-pub some-configuration : {x : Automaton} {L : ℕ} {w : List ℕ} {base count plain : ℕ} → Built x L w base count plain → 0 < count
-some-configuration {x} {L} b = rw (b .many) (getElem?-lt (configurations x L) 0 (first-configuration x L (rw (← b .many) (b .ended))))
-
--- ---- the start of a walk over words
--- Row 0 of a built block is the live set of the empty word.
-pub row-start : {x : Automaton} {L : ℕ} {w : List ℕ} {base count plain : ℕ} → Built x L w base count plain → (view count (row w base 0) ≡ live count (plainArcs x L) []) × εClosedSet count (plainArcs x L) (row w base 0)
-row-start {x} {L} {w} {base} {count} b = row-live count (plainArcs x L) w base (some-configuration b) (λ a m. rw (b .many) (within x L (rw (← b .many) (b .ended)) a m)) (b .rows)

@@ -10,7 +10,7 @@ use Rattle.automata.specs.Lists.{Each}
 use Rattle.automata.specs.Live.{Moves}
 use Rattle.automata.specs.Performing.{Move, successors}
 use Rattle.automata.specs.Unfolding.{configurations, plainArcs, sameConfiguration}
-use Rattle.automata.proofs.Laws.{distinct, each-at, each-mem, getElem?-lt, moves-from, moves-to, one-number, sameConfiguration-iff, successors-iff, within}
+use Rattle.automata.proofs.Laws.{distinct, each-at, each-mem, getElem?-lt, moves-from, moves-to, one-number, sameConfiguration-iff, successors-iff}
 use Rattle.word_layout.specs.Layout.{configs}
 use Rattle.table_operations.specs.Packed.{Hop, hops, pack}
 use Rattle.table_configurations.specs.Tables.{Configured}
@@ -30,7 +30,7 @@ use Rattle.table_sets.proofs.Laws.{held-each}
 use Rattle.table.proofs.FinalLaws.{word-in}
 
 -- the automaton of a file is built
-module _ (file : List ℕ) (c : Counts) {L : ℕ} {w : List ℕ} {block : Block} (lies : Lies (c .registers) (c .arcs) (firstArc c) file) (b : Built (decoded c file) L w (block .base) (block .count) (block .plain)) (stored : Stored (decoded c file) L w (block .count)) where
+module _ (file : List ℕ) (c : Counts) {L : ℕ} {w : List ℕ} {block : Block} (lies : Lies (c .registers) (c .arcs) (firstArc c) file) (b : Built (decoded c file) L w block) (stored : Stored (decoded c file) L w (block .count)) where
   abbrev x : Automaton
   x = decoded c file
 
@@ -88,7 +88,7 @@ module _ (file : List ℕ) (c : Counts) {L : ℕ} {w : List ℕ} {block : Block}
         let moved = moves-to (decoded c file) L fits s (entry s hs .1) ((successors-iff (decoded c file) (entry s hs .0) (m .letter) (m .to)) .0 (q .1)) in
         let found = of-word (f .to) (m .to) (f .few) (each-mem (λ (y : Move). Good (c .registers) (y .to)) (packed (entry s hs .0) own .1) (q .1)) (f .is ∙ sym (ap (λ (h : Hop). h .to) (q .2))) in
         let same : moved .0 ≡ f .to = one (moved .0) (f .to) (moved .1) found in
-        (f .to, Memᴰ·cast (λ i. record { source = s; letter = (sym spells) i; target = (sym same) i }) (moved .2), (b .rows (f .to) j (f .few)) .0 (f .leads))
+        (f .to, Memᴰ·cast (λ i. record { source = s; letter = (sym spells) i; target = (sym same) i }) (moved .2), (b .tells .rows (f .to) j (f .few)) .0 (f .leads))
 
     back : (t : ℕ) × Moves (plainArcs (decoded c file) L) s (some l) t × Run (Moves (plainArcs (decoded c file) L)) t [] j → FromFile file c w block s l j
     back q =
@@ -101,15 +101,15 @@ module _ (file : List ℕ) (c : Counts) {L : ℕ} {w : List ℕ} {block : Block}
           to = q .0;
           few = few;
           is = word-of (q .0) (made .0) (made .1);
-          leads = (b .rows (q .0) j few) .1 (q .2);
+          leads = (b .tells .rows (q .0) j few) .1 (q .2);
         }
 
   pub file-held : Held (block .count) (letters (decoded c file)) (plainArcs (decoded c file) L) (FromFile file c w block)
-  file-held = held-each (λ a m. rw (b .many) (within (decoded c file) L fits a m)) (λ s l j h g. (onward s l j h, back s l j h))
+  file-held = held-each (b .tells .within) (λ s l j h g. (onward s l j h, back s l j h))
 
   -- the plain arcs are told
   pub built-outgoing : Outgoing file c w block (plainArcs (decoded c file) L)
   unfolding decoded
   built-outgoing =
       let many = letters-length c file (omega (arith, lies .fits)) in
-      record { listed = λ l. rw many at (b .held l); filed = λ l. rw many at file-held }
+      record { told = rw many at (b .tells); filed = λ l. rw many at file-held }

@@ -4,7 +4,7 @@ use mathlib.Core.Logic.{_↔_}
 use mathlib.Core.Bool.{Bool, cond, false}
 use mathlib.Core.List.{List, [], _∷_}
 use mathlib.Core.Option.{Option, none, some}
-use Prim.Native.Nat.{_≤_, suc, zero, ℕ}
+use Prim.Native.Nat.{suc, zero, ℕ}
 use lib.Dec.{T, eqb}
 use lib.ListN.{length}
 use Rattle.automata.specs.Automaton.{Automaton}
@@ -14,11 +14,12 @@ use Rattle.automata.specs.Words.{spelling}
 use Rattle.word_sets.specs.Sets.{Within, inSet, view}
 use Rattle.word_rows.specs.Rows.{row}
 use Rattle.word_sets.proofs.Laws.{count-none, count-within, meets-view}
+use Rattle.word_layout.specs.declared.Block.{Block}
+use Rattle.table_sets.proofs.Laws.{tells-start}
 use Rattle.table.specs.Membership.{judged}
 use Rattle.table_live.specs.Steps.{liveBytes}
 use Rattle.table.specs.Built.{Built}
 use Rattle.table.specs.declared.Membership.the-variants.{Accepted, Rejected}
-use Rattle.table.proofs.BuildBlock.{row-start}
 
 -- nothing is in the empty set
 meets-none : (k : ℕ) (F : List Bool) → meets (table k (λ _. false)) F ≡ false
@@ -45,12 +46,13 @@ bytes-say x L s count S many start = rw (start, many) (go (spelling (x .alphabet
 
 -- THE LAW of judging: `live` is the live set of the word and `finals` the set of the final configurations; m says how many are live,
 -- and b whether a final one is among them
-pub judge-is : {x : Automaton} {L : ℕ} {w : List ℕ} {base count plain : ℕ} (word live finals : List ℕ) (b : Bool) (m : ℕ) → Built x L w base count plain → count ≤ 256
-    → view count live ≡ liveBytes (x .alphabet) (plainArcs x L) count (view count (row w base 0)) word → Within count live → view count finals ≡ finalSet x (configurations x L)
+pub judge-is : {x : Automaton} {L : ℕ} {w : List ℕ} {block : Block} (word live finals : List ℕ) (b : Bool) (m : ℕ) → Built x L w block
+    → view (block .count) live ≡ liveBytes (x .alphabet) (plainArcs x L) (block .count) (view (block .count) (row w (block .base) 0)) word → Within (block .count) live
+    → view (block .count) finals ≡ finalSet x (configurations x L)
     → T b ↔ ((j : ℕ) × T (inSet live j) × T (inSet finals j)) → m ≡ howMany (view 256 live) → judged L x word ≡ cond b (Accepted m) (Rejected m)
 unfolding judged
-judge-is {x} {L} {w} {base} {count} word live finals b m built few is inside final test many =
-    let s = bytes-say x L word count (view count (row w base 0)) (built .many) (row-start built .0) in
+judge-is {x} {L} {w} {block} word live finals b m built is inside final test many =
+    let s = bytes-say x L word (block .count) (view (block .count) (row w (block .base) 0)) (built .many) (tells-start (built .tells) .0) in
     let e : acceptedBytes x L word ≡ b = s .0 ∙ sym (meets-view live finals inside test ∙ ap₂ meets is final) in
-    let c : liveCount x L word ≡ m = s .1 ∙ ap howMany (sym is) ∙ sym (many ∙ count-within live few inside) in
+    let c : liveCount x L word ≡ m = s .1 ∙ ap howMany (sym is) ∙ sym (many ∙ count-within live (built .tells .few) inside) in
     rw (e, c)

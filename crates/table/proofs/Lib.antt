@@ -3,7 +3,6 @@ pub mod BuildBlock
 pub mod FinalLaws
 pub mod FileArcs
 pub mod JudgeWord
-pub mod ReadyLaws
 pub mod Opening
 pub mod PlainFits
 pub mod FaceLaws

@@ -13,9 +13,10 @@ use Rattle.file_fields.specs.declared.Reading.the-variants.{Refused as Fault, V
 use Rattle.format.specs.Decoding.{automatonOf}
 use Rattle.format.specs.Reading.{readingOf}
 use Rattle.format.specs.Refusals.{faultOf, unlessRefused}
-use Rattle.file_laws.proofs.Laws.{file-seen, has-fault, valid-sizes}
+use Rattle.file_laws.proofs.Laws.{file-seen, has-fault, valid-lies, valid-ranges, valid-sizes}
 use Rattle.word_layout.specs.Layout.{blockEnd, firstBlock}
 use Rattle.word_layout.specs.declared.Block.{Block}
+use Rattle.table_operations.specs.Arcs.{Walkable}
 use Rattle.table_configurations.specs.declared.Explored.the-variants.{Tables, TooMany}
 use Rattle.table_explore.specs.Explores.{exploredOf}
 use Rattle.table.specs.Opening.{Holds, blockOf, openRefusals, openedOf}
@@ -111,3 +112,7 @@ module _ {file : List ℕ} {c : Counts} {w : List ℕ} {block : Block} (h : Hold
 -- the registers of a valid file's automaton are those of its counts
 pub registers-are : (file : List ℕ) (c : Counts) → readingOf file ≡ Valid c → automatonOf file .registers ≡ c .registers
 registers-are file c valid = ap (λ (d : Counts). d .registers) (valid-sizes file c valid)
+
+-- and its arcs can be walked
+pub valid-walkable : (file : List ℕ) (c : Counts) → readingOf file ≡ Valid c → Walkable c file
+valid-walkable file c e = let r = valid-ranges file c e in record { letters = r .letters; states = r .states; lies = valid-lies file c e }

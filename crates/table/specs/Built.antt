@@ -1,25 +1,20 @@
 -- Built: a block whose rows are closed, and the configurations in the words, said of any automaton (document 01, 'Runs and slips' and 'Unfolding').
 use mathlib.Core.Path.{_≡_}
-use mathlib.Core.Logic.{_↔_}
-use mathlib.Core.List.{List, [], map}
-use Prim.Native.Nat.{_<_, _≤_, ℕ}
-use lib.Dec.{T}
+use mathlib.Core.List.{List, map}
+use Prim.Native.Nat.{_≤_, ℕ}
 use lib.ListN.{drop, length, take}
-use Rattle.automata.specs.Automaton.{Automaton, Run, letters}
-use Rattle.automata.specs.Live.{Moves}
+use Rattle.automata.specs.Automaton.{Automaton, letters}
 use Rattle.automata.specs.Unfolding.{configurations, plainArcs}
 use Rattle.word_layout.specs.Layout.{configs}
+use Rattle.word_layout.specs.declared.Block.{Block}
 use Rattle.table_operations.specs.Packed.{pack}
-use Rattle.word_rows.specs.Rows.{related}
-use Rattle.table_sets.specs.Stepping.{FromList, Held, Starts}
+use Rattle.table_sets.specs.Stepping.{Tells}
 
--- x has `count` configurations, at most L; its block holds its closed rows and, where they fit, `plain` arcs that tell its plain arcs
-pub record Built (x : Automaton) (L : ℕ) (w : List ℕ) (base count plain : ℕ) : Type 0 where
-  pub many : count ≡ length (configurations x L)
-  pub ended : count ≤ L
-  pub rows : (i j : ℕ) → i < count → T (related w base i j) ↔ Run (Moves (plainArcs x L)) i [] j
-  pub held : plain ≤ 2048 → Held count (letters x) (plainArcs x L) (FromList w base count plain)
-  pub starts : plain ≤ 2048 → Starts w base count plain
+-- the block has the configurations of x, at most L, and tells its plain arcs
+pub record Built (x : Automaton) (L : ℕ) (w : List ℕ) (block : Block) : Type 0 where
+  pub many : block .count ≡ length (configurations x L)
+  pub ended : block .count ≤ L
+  pub tells : Tells (letters x) (plainArcs x L) w block
 
 -- the `count` configurations of x stand in the words, in the order of their numbers; they do until another automaton is built
 abbrev pub Stored : Automaton → ℕ → List ℕ → ℕ → Type 0

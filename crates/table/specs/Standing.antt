@@ -9,11 +9,12 @@ use Rattle.file_fields.specs.declared.Counts.{Counts}
 use Rattle.file_fields.specs.declared.Reading.the-variants.{Valid}
 use Rattle.format.specs.Decoding.{automatonOf}
 use Rattle.format.specs.Reading.{readingOf}
-use Rattle.word_layout.specs.Layout.{configs, firstSets}
+use Rattle.word_layout.specs.Layout.{Placed, configs}
 use Rattle.word_layout.specs.declared.Block.{Block}
+use Rattle.table_operations.specs.Arcs.{Indexed, Linked}
 use Rattle.table_configurations.specs.declared.Explored.{Explored}
 use Rattle.table_configurations.specs.declared.Explored.the-variants.{Tables, TooMany}
-use Rattle.table_live.specs.Steps.{Steppable}
+use Rattle.table_file_steps.specs.FileSteps.{Findable}
 use Rattle.table.specs.Built.{Built, Stored}
 
 -- the file is valid and has the counts c, and the configurations of its automaton stand in the words, in the order of their numbers; they
@@ -25,17 +26,17 @@ pub record Numbered (file : List ℕ) (c : Counts) (w : List ℕ) (count : ℕ) 
   pub many : count ≡ length (configurations (automatonOf file) 256)
   pub stored : Stored (automatonOf file) 256 w count
 
--- the file is valid and has the counts c, and the block holds its automaton: its rows, closed, and its plain arcs where they fit
+-- the file is valid and has the counts c, and its automaton is built: the block tells its plain arcs, by rows that are closed and by a list
+-- where they fit; and its configurations and the arcs of the file can be found, so that a step can be taken by the file
 pub record Stands (file : List ℕ) (c : Counts) (w : List ℕ) (block : Block) : Type 0 where
   pub numbered : Numbered file c w (block .count)
-  pub built : Built (automatonOf file) 256 w (block .base) (block .count) (block .plain)
+  pub built : Built (automatonOf file) 256 w block
+  pub placed : Placed w (block .base)
+  pub indexed : Indexed c file w
+  pub linked : Linked c file w
+  pub findable : Findable w (block .count)
 
 -- the block from the word `base` on, of what building answers
 abbrev pub StandsBy : (file : List ℕ) (c : Counts) (w : List ℕ) (base : ℕ) → Explored → Type 0
 StandsBy file c w base TooMany = Unit {0}
 StandsBy file c w base (Tables count plain) = Stands file c w (record { base = base; count = count; plain = plain })
-
--- a word can be judged: the automaton of the file stands in the block, and a step can be taken, over the list or by the file
-pub record Ready (file : List ℕ) (c : Counts) (w : List ℕ) (block : Block) : Type 0 where
-  pub stands : Stands file c w block
-  pub steps : Steppable file c w block firstSets

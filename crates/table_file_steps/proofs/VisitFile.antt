@@ -128,14 +128,22 @@ led-split {w} {block} (some h) rest {p} {j} = (
     also : {hs hs' : List Hop} (d : Led w block hs p j) → List·Memᴰ (d .hop) hs' → Led w block hs' p j
     also d m = record { hop = d .hop; among = m; letter = d .letter; to = d .to; few = d .few; is = d .is; leads = d .leads }
 
--- ---- other words change
+-- the building's tables are as they were
+pub findable-same : {w w' : List ℕ} {count : ℕ} → count ≤ 256 → ((i : ℕ) → offsets ≤ i → i < mapEnd → getD w' i 0 ≡ getD w i 0) → Findable w count → Findable w' count
+findable-same few same f = record {
+  configured = configured-kept (λ j x y. same j (omega arith) y) (f .configured);
+  apart = λ i t h g e. f .apart i t h g (sym (same (configs + i) (omega arith) (omega arith)) ∙ e ∙ same (configs + t) (omega arith) (omega arith));
+}
+
+-- ---- other words change: neither the building's tables nor the block
 pub record SameMap (block : Block) (w w' : List ℕ) : Type 0 where
   pub few : block .count ≤ 256
   pub rows : SameBlock (block .base) w w'
-  pub words : (i : ℕ) → i < mapEnd → getD w' i 0 ≡ getD w i 0
+  pub words : (i : ℕ) → offsets ≤ i → i < mapEnd → getD w' i 0 ≡ getD w i 0
 
-pub map-kept : (block : Block) {a b : ℕ} {w w' : List ℕ} → mapEnd ≤ a → (b ≤ block .base) ⊎ (blockEnd (block .base) ≤ a) → block .count ≤ 256 → Kept a b w w' → SameMap block w w'
-map-kept block h apart few k = record { few = few; rows = block-kept k apart; words = λ i l. k .below i (omega arith) }
+-- what was written stands below the tables or above them, and below the block or above it
+pub map-kept : (block : Block) {a b : ℕ} {w w' : List ℕ} → (b ≤ offsets) ⊎ (mapEnd ≤ a) → (b ≤ block .base) ⊎ (blockEnd (block .base) ≤ a) → block .count ≤ 256 → Kept a b w w' → SameMap block w w'
+map-kept block beside apart few k = record { few = few; rows = block-kept k apart; words = λ i g l. ⊎-elim (λ h. k .above i (omega arith)) (λ h. k .below i (omega arith)) beside }
 
 module _ {w w' : List ℕ} {block : Block} (s : SameMap block w w') where
   pub led-kept : (hs : List Hop) (p j : ℕ) → Led w' block hs p j ↔ Led w block hs p j
@@ -148,7 +156,7 @@ module _ {w w' : List ℕ} {block : Block} (s : SameMap block w w') where
           letter = d .letter;
           to = d .to;
           few = d .few;
-          is = sym (s .words (configs + d .to) (omega arith)) ∙ d .is;
+          is = sym (s .words (configs + d .to) (omega arith) (omega arith)) ∙ d .is;
           leads = subst T (related-kept (s .rows) (d .to) j (omega arith)) (d .leads);
         },
     λ d. let h = d .few in
@@ -159,19 +167,16 @@ module _ {w w' : List ℕ} {block : Block} (s : SameMap block w w') where
           letter = d .letter;
           to = d .to;
           few = d .few;
-          is = s .words (configs + d .to) (omega arith) ∙ d .is;
+          is = s .words (configs + d .to) (omega arith) (omega arith) ∙ d .is;
           leads = subst T (sym (related-kept (s .rows) (d .to) j (omega arith))) (d .leads);
         },
   )
 
   pub from-kept : (file : List ℕ) (n : Counts) (c : ℕ) → c < block .count → (p j : ℕ) → FromFile file n w' block c p j ↔ FromFile file n w block c p j
-  from-kept file n c h p j = rw (s .words (configs + c) (omega (arith, s .few))) (led-kept (hops (n .arcs) (drop (firstArc n) file) (getD w (configs + c) 0)) p j)
+  from-kept file n c h p j = rw (s .words (configs + c) (omega arith) (omega (arith, s .few))) (led-kept (hops (n .arcs) (drop (firstArc n) file) (getD w (configs + c) 0)) p j)
 
   pub findable-kept : Findable w (block .count) → Findable w' (block .count)
-  findable-kept f = record {
-    configured = configured-kept (λ j x y. s .words j y) (f .configured);
-    apart = λ i t h g e. f .apart i t h g (sym (s .words (configs + i) (omega (arith, s .few))) ∙ e ∙ s .words (configs + t) (omega (arith, s .few)));
-  }
+  findable-kept = findable-same (s .few) (s .words)
 
 -- ---- along the chain of the state of `own`: what has joined, with the arcs that are left, gives the whole
 pub record Following (file w₀ : List ℕ) (n : Counts) (block : Block) (acc own met₀ : ℕ) (w : List ℕ) (met j : ℕ) : Type 0 where
@@ -234,7 +239,7 @@ module _ {file w₀ : List ℕ} {n : Counts} {block : Block} {acc own met₀ : �
           rest = hopsOf file w₀ own (chosen (stateOf file w₀) (own / 2 ^ 32) j)
 
           same : SameMap block w₀ w
-          same = map-kept block high (r .apart) few (g .kept)
+          same = map-kept block (inr high) (r .apart) few (g .kept)
 
           to : (p q : ℕ) → p < 64 → T (inSet (setOf w' acc met' p) q) ⊎ Led w₀ block rest p q
               → T (inSet (setOf w acc met p) q) ⊎ Led w₀ block (hopsOf file w₀ own (chosen (stateOf file w₀) (own / 2 ^ 32) (g .upto))) p q

@@ -90,7 +90,7 @@ fn visit_file(
     out
 }
 
-// The live set after one more letter, for each letter, as `compare_step::step` leaves it.
+// The live set after one more letter, for each letter, as `table_list_steps::step` leaves it.
 // Cost: what `take_arc` takes for each arc that leaves the state of a live configuration.
 pub fn step_file(
     file: &[u8],

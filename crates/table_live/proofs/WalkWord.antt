@@ -1,5 +1,6 @@
 -- WalkWord: the live set of a word of bytes, one byte after the other.
 use mathlib.Core.Path.{_∙_, _≡_, ap, refl, subst, sym}
+use mathlib.Core.Logic.{inr}
 use mathlib.Core.Bool.{Bool, false}
 use mathlib.Core.List.{List, [], _∷_}
 use mathlib.Core.Option.{Option, Option·map, none, some}
@@ -25,8 +26,8 @@ use Rattle.file_fields.specs.declared.letters.Letter.the-variants.{At, None}
 use Rattle.file_fields.proofs.Laws.{letters-length}
 use Rattle.word_fields.specs.Frame.{Kept}
 use Rattle.word_fields.proofs.Laws.{kept-same, kept-then}
-use Rattle.word_sets.specs.Sets.{εClosedSet, Within, view}
-use Rattle.word_sets.proofs.Laws.{empty-set, table-ext}
+use Rattle.word_sets.specs.Sets.{εClosedSet, inSet, view}
+use Rattle.word_sets.proofs.Laws.{empty-set, in-view, table-ext}
 use Rattle.table_live.specs.Steps.{Outgoing, Steppable, liveBytes}
 use Rattle.table_live.proofs.StepFrame.{outgoing-kept}
 use Rattle.table_file_steps.proofs.Laws.{map-kept}
@@ -100,10 +101,13 @@ module _ (alphabet : List ℕ) (arcs : List PlainArc) (count : ℕ) where
   unfolding liveBytes spelling
   live-foreign S b s e = rw (letter-none b alphabet e)
 
--- the empty set of words is the empty set
-empty-view : (count : ℕ) → (view count (0 ∷ 0 ∷ 0 ∷ 0 ∷ []) ≡ table count (λ _. false)) × Within count (0 ∷ 0 ∷ 0 ∷ 0 ∷ [])
+-- the set with nothing in it, which no empty move leaves
+empty-view : (count : ℕ) (arcs : List PlainArc) → (view count (0 ∷ 0 ∷ 0 ∷ 0 ∷ []) ≡ table count (λ _. false)) × εClosedSet count arcs (0 ∷ 0 ∷ 0 ∷ 0 ∷ [])
 unfolding view
-empty-view count = (table-ext count (λ j h. empty-set j), λ j t. absurd (subst T (empty-set j) t))
+empty-view count arcs = (table-ext count (λ j h. empty-set j), (λ j t. absurd (nobody j t), λ i j t m. absurd (nobody i ((in-view count (0 ∷ 0 ∷ 0 ∷ 0 ∷ []) i) .0 t .1))))
+  where
+    nobody : (j : ℕ) → ¬ T (inSet (0 ∷ 0 ∷ 0 ∷ 0 ∷ []) j)
+    nobody j t = subst T (empty-set j) t
 
 -- ---- the loop: the words are as they were but for the sets of the letters, and what is left of the word leads from `set` where the
 -- whole word leads from set₀
@@ -132,18 +136,18 @@ module _ {file : List ℕ} {c : Counts} {word w₀ w : List ℕ} {block : Block}
     kept = kept-then (v .kept) k;
     live = λ arcs o z.
         let p = v .live arcs o z in
-        let same = map-kept block (omega arith) (s .room .apart) (s .findable .configured .few) (v .kept) in
-        let q = f arcs (outgoing-kept same s o) (p .1) (omega (arith, letter-lt (getD word i 0) l alphabet e, letters-length c file (omega (arith, s .walkable .lies .fits)))) in
+        let same = map-kept block (inr (omega arith)) (s .room .apart) (s .findable .configured .few) (v .kept) in
+        let q = f arcs (outgoing-kept same o) (p .1) (omega (arith, letter-lt (getD word i 0) l alphabet e, letters-length c file (omega (arith, s .walkable .lies .fits)))) in
         (p .0 ∙ rw (rest h) (live-letter alphabet arcs (block .count) (view (block .count) set) (getD word i 0) l (drop (i + 1) word) e) ∙ ap (λ (S : List Bool). liveBytes alphabet arcs (block .count) S (drop (i + 1) word)) (sym (q .0)), q .1);
   }
 
   -- a byte that is no letter
   pub walking-foreign : i < length word → letterNumber (getD word i 0) (letterBytes c file) ≡ None → (arcs : List PlainArc) → Outgoing file c w₀ block arcs → εClosedSet (block .count) arcs set₀
-      → (view (block .count) (0 ∷ 0 ∷ 0 ∷ 0 ∷ []) ≡ liveBytes (letterBytes c file) arcs (block .count) (view (block .count) set₀) word) × Within (block .count) (0 ∷ 0 ∷ 0 ∷ 0 ∷ [])
+      → (view (block .count) (0 ∷ 0 ∷ 0 ∷ 0 ∷ []) ≡ liveBytes (letterBytes c file) arcs (block .count) (view (block .count) set₀) word) × εClosedSet (block .count) arcs (0 ∷ 0 ∷ 0 ∷ 0 ∷ [])
   walking-foreign h e arcs o z =
-      let m = empty-view (block .count) in
+      let m = empty-view (block .count) arcs in
       (m .0 ∙ sym (v .live arcs o z .0 ∙ rw (rest h) (live-foreign alphabet arcs (block .count) (view (block .count) set) (getD word i 0) (drop (i + 1) word) e)), m .1)
 
   pub walking-end : length word ≤ i → (arcs : List PlainArc) → Outgoing file c w₀ block arcs → εClosedSet (block .count) arcs set₀
-      → (view (block .count) set ≡ liveBytes (letterBytes c file) arcs (block .count) (view (block .count) set₀) word) × Within (block .count) set
-  walking-end h arcs o z = let p = v .live arcs o z in (sym (p .0 ∙ rw (drop-of-length-le word h) (live-end alphabet arcs (block .count) (view (block .count) set))), p .1 .0)
+      → (view (block .count) set ≡ liveBytes (letterBytes c file) arcs (block .count) (view (block .count) set₀) word) × εClosedSet (block .count) arcs set
+  walking-end h arcs o z = let p = v .live arcs o z in (sym (p .0 ∙ rw (drop-of-length-le word h) (live-end alphabet arcs (block .count) (view (block .count) set))), p .1)

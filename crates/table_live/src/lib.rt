@@ -1,5 +1,5 @@
-// table_live: the live set of a word of bytes, one letter after the other: by the plain arcs with that letter where all are listed, else
-// by the arcs in the file.
+// table_live: the live sets of one automaton, by the listed plain arcs where all are listed, else by the arcs in the file: after one more
+// letter, for all letters at once; and after a word of bytes, one letter after the other.
 ghost use mathlib.Core.Path.{_≡_};
 ghost use mathlib.Core.List.{List};
 ghost use Prim.Native.Nat.{_+_, _<_};
@@ -8,7 +8,7 @@ ghost use Rattle.word_layout.specs.Layout.{firstSets};
 ghost use Rattle.file_fields.specs.Parts.{letterBytes};
 ghost use Rattle.table_letters.specs.Lettered.{Lettered};
 ghost use Rattle.word_fields.specs.Frame.{Kept};
-ghost use Rattle.word_sets.specs.Sets.{view, εClosedSet, Within};
+ghost use Rattle.word_sets.specs.Sets.{view, εClosedSet};
 ghost use Rattle.table_live.specs.Steps.{Outgoing, Steppable, liveBytes};
 use format::Counts;
 use format::letters::Letter;
@@ -18,10 +18,12 @@ use table_sets::set_of;
 use word_layout::Block;
 use word_layout::FIRST_SETS;
 
-// The live set after the letter l: by the listed arcs with that letter where all plain arcs are listed, else by the arcs in the file.
-// Cost: one step for each listed arc with the letter; where they are not listed, one for each operation of the arcs that leave the state
-// of a live configuration, and a look into the table of configurations for each that passes.
-fn step_letter(
+pub mod letters;
+
+// The live set after the letter l, where the plain arcs are too many to be listed.
+// Cost: one step for each operation of the arcs that leave the state of a live configuration, and a look into the table of configurations
+// for each that passes.
+fn step_in_file(
     file: &[u8],
     c: Counts,
     w: &mut [u64],
@@ -29,20 +31,18 @@ fn step_letter(
     set: [u64; 4],
     l: usize,
 ) -> [u64; 4]
-    requires { ⌜ (l < 64) × (Steppable (now file) c (now w) block firstSets × Lettered (now w) block) ⌝ }
+    requires { ⌜ (l < 64) × (Steppable (now file) c (now w) block firstSets × (2048 < block .plain)) ⌝ }
     ensures kept { λ _. ⌜ Kept firstSets (firstSets + 256) (now (w .entry)) (now (w .exit)) ⌝ }
     ensures set { λ r. ⌜ ((arcs : List PlainArc) → Outgoing (now (file .entry)) c (now (w .entry)) block arcs → εClosedSet (block .count) arcs set → l < c .letters
         → (view (block .count) r ≡ byLetter (block .count) arcs (view (block .count) set) l) × εClosedSet (block .count) arcs r) ⌝ }
 {
-    if block.plain <= 2048 {
-        return follow(w, block, set, l);
-    }
     let met = step_file(file, c, w, block, FIRST_SETS, set);
     set_of(w, FIRST_SETS, met, l)
 }
 
 // The live set of a word, from the set `from` on, of the automaton whose file has the counts c; empty where a byte is no letter.
-// Cost: for each byte what `step_letter` takes, and at most one look at each letter.
+// Cost: for each byte at most one look at each letter, and one step for each listed arc with the letter; where they are not listed, one for
+// each operation of the arcs that leave the state of a live configuration, and a look into the table of configurations for each that passes.
 pub fn walk_word(
     file: &[u8],
     c: Counts,
@@ -54,7 +54,7 @@ pub fn walk_word(
     requires { ⌜ Steppable (now file) c (now w) block firstSets × Lettered (now w) block ⌝ }
     ensures kept { λ _. ⌜ Kept firstSets (firstSets + 256) (now (w .entry)) (now (w .exit)) ⌝ }
     ensures set { λ r. ⌜ ((arcs : List PlainArc) → Outgoing (now (file .entry)) c (now (w .entry)) block arcs → εClosedSet (block .count) arcs from
-        → (view (block .count) r ≡ liveBytes (letterBytes c (now (file .entry))) arcs (block .count) (view (block .count) from) (now (word .entry))) × Within (block .count) r) ⌝ }
+        → (view (block .count) r ≡ liveBytes (letterBytes c (now (file .entry))) arcs (block .count) (view (block .count) from) (now (word .entry))) × εClosedSet (block .count) arcs r) ⌝ }
 {
     let mut set = from;
     let mut i: usize = 0;
@@ -62,8 +62,13 @@ pub fn walk_word(
         let Letter::At(l) = format::letters::letter_number(c, file, word[i]) else {
             return [0; 4];
         };
-        let next = step_letter(file, c, w, block, set, l as usize);
-        set = next;
+        if block.plain <= 2048 {
+            let next = follow(w, block, set, l as usize);
+            set = next;
+        } else {
+            let next = step_in_file(file, c, w, block, set, l as usize);
+            set = next;
+        }
         i += 1;
     }
     set

@@ -58,13 +58,13 @@ unfolding falling
 falling-ext f g zero h = refl
 falling-ext f g (suc n) h = ap₂ (λ (x : ℕ) (l : List ℕ). x ∷ l) (h n (omega arith)) (falling-ext f g n (λ j k. h j (omega arith)))
 
-pub indexed-kept : {c : Counts} {file : List ℕ} (w w′ : List ℕ) → Walkable c file → ((j : ℕ) → j < arcNexts → getD w′ j 0 ≡ getD w j 0) → Indexed c file w → Indexed c file w′
-indexed-kept {c} w w′ y h i = i ∙ falling-ext (placeOf w) (placeOf w′) (c .arcs) (λ j l. sym (field-same w w′ offsets j (h (offsets + j / 4) (omega (arith, y .lies .few)))))
+pub indexed-kept : {c : Counts} {file : List ℕ} (w w′ : List ℕ) → Walkable c file → ((j : ℕ) → offsets ≤ j → j < arcNexts → getD w′ j 0 ≡ getD w j 0) → Indexed c file w → Indexed c file w′
+indexed-kept {c} w w′ y h i = i ∙ falling-ext (placeOf w) (placeOf w′) (c .arcs) (λ j l. sym (field-same w w′ offsets j (h (offsets + j / 4) (omega arith) (omega (arith, y .lies .few)))))
 
-pub linked-kept : {c : Counts} {file : List ℕ} (w w′ : List ℕ) → Walkable c file → ((j : ℕ) → j < configs → getD w′ j 0 ≡ getD w j 0) → Linked c file w → Linked c file w′
+pub linked-kept : {c : Counts} {file : List ℕ} (w w′ : List ℕ) → Walkable c file → ((j : ℕ) → offsets ≤ j → j < configs → getD w′ j 0 ≡ getD w j 0) → Linked c file w → Linked c file w′
 linked-kept {c} {file} w w′ y h l =
-    chain-kept (λ j k. ap (λ (x : ℕ). getD file x 0) (sym (field-same w w′ offsets j (h (offsets + j / 4) (omega (arith, y .lies .few))))))
-    (λ s k. h (arcHeads + s / 4) (omega arith)) (λ j k. h (arcNexts + j / 4) (omega (arith, y .lies .few))) l
+    chain-kept (λ j k. ap (λ (x : ℕ). getD file x 0) (sym (field-same w w′ offsets j (h (offsets + j / 4) (omega arith) (omega (arith, y .lies .few))))))
+    (λ s k. h (arcHeads + s / 4) (omega arith) (omega arith)) (λ j k. h (arcNexts + j / 4) (omega arith) (omega (arith, y .lies .few))) l
 
 -- ---- walking along them
 -- what the arcs of these entries make of the configuration `own`

@@ -6,4 +6,4 @@ pub use Rattle.table_sets.proofs.BlockFrame.{SameBlock, arc-kept, block
 -- a step by all letters at once takes each live configuration's arcs, and leaves the live set of each letter
 pub use Rattle.table_sets.proofs.StepLaws.{Onward, Stepping, led, stepped, stepping-more, stepping-start}
 -- a block that tells plain arcs: its list, what is written elsewhere, and its first row
-pub use Rattle.table_sets.proofs.Telling.{row-live, tells-kept, tells-listed, tells-start}
+pub use Rattle.table_sets.proofs.Telling.{tells-kept, tells-listed, tells-start}

@@ -84,9 +84,11 @@ abbrev pub BySource : List ℕ → Block → Type 0
 BySource w block = Starts w (block .base) (block .count) (block .plain)
 
 -- the block tells these plain arcs of its configurations, of which configuration 0 is one: row i has what runs of empty moves lead to from
--- i, and the list tells where letters lead
+-- i; and where all arcs are listed, they are by their sources, and the list tells where letters lead
 pub record Tells (letters : ℕ) (arcs : List PlainArc) (w : List ℕ) (block : Block) : Type 0 where
   pub some : 0 < block .count
+  pub few : block .count ≤ 256
+  pub within : (a : PlainArc) → List·Memᴰ a arcs → a .target < block .count
   pub rows : (i j : ℕ) → i < block .count → T (related w (block .base) i j) ↔ Run (Moves arcs) i [] j
-  pub listed : BySource w block
-  pub held : Held (block .count) letters arcs (FromList w (block .base) (block .count) (block .plain))
+  pub listed : block .plain ≤ 2048 → BySource w block
+  pub held : block .plain ≤ 2048 → Held (block .count) letters arcs (FromList w (block .base) (block .count) (block .plain))

@@ -1,9 +1,13 @@
 -- Layout: where everything stands in the 8,192 lent words, each place once. What an automaton's building, a step and comparing write lies
--- below the blocks, so that one statement about what is kept keeps both automata. The code has the same places by the same names
+-- below the blocks, so that one statement about what is kept keeps both automata. Where the live sets of one automaton are counted, what a
+-- search writes is one stretch of words above the building's tables and the block. The code has the same places by the same names
 -- (src/lib.rt).
-use Prim.Native.Nat.{ℕ, _*_, _+_, _≤_}
+use mathlib.Core.Path.{_≡_}
+use mathlib.Core.Logic.{_⊎_}
 use mathlib.Core.List.{List}
+use Prim.Native.Nat.{ℕ, _*_, _+_, _≤_}
 use lib.ListN.{length}
+use Rattle.word_layout.specs.declared.SetTable.{SetTable}
 
 -- ---- the tables of the building, of one automaton at a time
 -- the place of each arc in the file, 2,048 fields: arc i of m in field m - 1 - i, so that a chain, which falls, is in file order
@@ -34,19 +38,34 @@ configNexts = 3520
 abbrev pub mapEnd : ℕ
 mapEnd = 3584
 
--- ---- the pairs of comparing: pair i is rows 2 i and 2 i + 1 of four words each, from word 0 on, for 512 pairs. They take the place of the
--- building's tables, which are not needed once both automata are built
--- the parent of each pair and the letter by which it was met, a field of 16 bits: parent times 64 plus letter
-abbrev pub parents : ℕ
-parents = 4096
+-- ---- a table of live sets: 512 rows of one set or of two, four words each, from the word `rows` on; then its index, which has, in fields of
+-- 16 bits, the parent of each row and the letter by which it was met, and the chains by which rows are found
+-- the parents: parent times 64 plus letter, a field for each row
+abbrev pub parentsAt : SetTable → ℕ
+parentsAt t = t .index
 
--- the chains by which pairs are found: 509 heads and 512 next fields, up to the sets of the letters
-abbrev pub pairHeads : ℕ
-pairHeads = 4224
+-- the chains by which rows are found, 509 heads and 512 next fields: of those the heads
+abbrev pub headsAt : SetTable → ℕ
+headsAt t = t .index + 128
 
--- of those chains the next fields
-abbrev pub pairNexts : ℕ
-pairNexts = 4352
+-- and the next fields
+abbrev pub nextsAt : SetTable → ℕ
+nextsAt t = t .index + 256
+
+-- behind the table
+abbrev pub tableEnd : SetTable → ℕ
+tableEnd t = t .index + 384
+
+-- the words are there; a row has one set or two, and the rows end before the index
+pub record Tabled (w : List ℕ) (t : SetTable) : Type 0 where
+  pub one-or-two : (t .sets ≡ 1) ⊎ (t .sets ≡ 2)
+  pub before : t .rows + 4 * (t .sets * 512) ≤ t .index
+  pub long : tableEnd t ≤ length w
+
+-- the table of comparing: pairs of live sets, from word 0 on and up to the sets of the letters. They take the place of the building's
+-- tables, which are not needed once both automata are built
+abbrev pub pairTable : SetTable
+pairTable = record { rows = 0; sets = 2; index = 4096 }
 
 -- ---- the live sets of all letters that a step leaves, 64 rows: of the first automaton, or the only one, and of the second
 -- of the first, or the only one
@@ -104,3 +123,33 @@ letterHeads = letterNexts + 512
 -- behind these
 abbrev pub letteredEnd : ℕ
 letteredEnd = letterHeads + 64
+
+-- ---- a call on one automaton whose live sets are counted: what is counted stands below the building's tables, then the block, then the
+-- table of live sets, then the sets of the letters
+-- how many words of one length lead from each live set to one that is accepted, 512 words
+abbrev pub counts : ℕ
+counts = 0
+
+-- the same of the length that is counted next
+abbrev pub nextCounts : ℕ
+nextCounts = 512
+
+-- the numbers of the live sets that the letters lead to, 4,096 fields, up to the building's tables
+abbrev pub targets : ℕ
+targets = 1024
+
+-- the block, right behind the building's tables
+abbrev pub onlyBlock : ℕ
+onlyBlock = mapEnd
+
+-- the live sets, 512 rows of four words, right behind the block
+abbrev pub setRows : ℕ
+setRows = blockEnd onlyBlock
+
+-- the index of the rows, 384 words, up to the sets of the letters
+abbrev pub setIndex : ℕ
+setIndex = 7232
+
+-- the sets of the letters that a step leaves, 64 rows
+abbrev pub letterSets : ℕ
+letterSets = 7616

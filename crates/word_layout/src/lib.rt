@@ -7,6 +7,13 @@ pub struct Block {
     pub plain: usize,
 }
 
+// A table of live sets: the word that its rows start at, how many sets a row has, one or two, and the word that its index starts at.
+pub struct SetTable {
+    pub rows: usize,
+    pub sets: usize,
+    pub index: usize,
+}
+
 // The tables of the building.
 pub const OFFSETS: usize = 2048;
 
@@ -20,12 +27,15 @@ pub const CONFIG_HEADS: usize = 3392;
 
 pub const CONFIG_NEXTS: usize = 3520;
 
-// The pairs of comparing.
-pub const PARENTS: usize = 4096;
+// The parts of a table's index from its first word on: the parents come first.
+pub const INDEX_HEADS: usize = 128;
 
-pub const PAIR_HEADS: usize = 4224;
+pub const INDEX_NEXTS: usize = 256;
 
-pub const PAIR_NEXTS: usize = 4352;
+// The table of comparing, of pairs of live sets.
+pub const PAIR_ROWS: usize = 0;
+
+pub const PAIR_INDEX: usize = 4096;
 
 // The sets of the letters that a step leaves.
 pub const FIRST_SETS: usize = 4480;
@@ -47,3 +57,18 @@ pub const SOURCES: usize = 6592;
 pub const LETTER_NEXTS: usize = 7104;
 
 pub const LETTER_HEADS: usize = 7616;
+
+// The places of a call on one automaton whose live sets are counted.
+pub const COUNTS: usize = 0;
+
+pub const NEXT_COUNTS: usize = 512;
+
+pub const TARGETS: usize = 1024;
+
+pub const ONLY_BLOCK: usize = 3584;
+
+pub const SET_ROWS: usize = 5184;
+
+pub const SET_INDEX: usize = 7232;
+
+pub const LETTER_SETS: usize = 7616;

@@ -1,4 +1,4 @@
-//! The requirements (document 01) written down plainly in Rust, with vectors and maps and no care for memory or speed.
+//! The requirements (documents 01 and 02) written down plainly in Rust, with vectors and maps and no care for memory or speed.
 //! It shares no code and no table layout with the engine: what both answer alike was reached in two ways.
 
 use std::collections::{BTreeSet, HashMap};
@@ -463,6 +463,95 @@ pub fn compare(
             word: word.iter().map(|&letter| x.letters[letter]).collect(),
         },
     })
+}
+
+// ---- counting the words of one length
+
+type LiveSet = BTreeSet<Configuration>;
+
+/// The live sets of all words, that of the empty word first, and the number of the set that each letter leads to from each;
+/// none where there are more than 512.
+fn live_sets(x: &Automaton) -> Option<(Vec<LiveSet>, Vec<Vec<usize>>)> {
+    let begin = live_at_start(x);
+    let mut met = HashMap::from([(begin.clone(), 0)]);
+    let mut sets = vec![begin];
+    let mut behind: Vec<Vec<usize>> = Vec::new();
+    while behind.len() < sets.len() {
+        let here = sets[behind.len()].clone();
+        let mut targets = Vec::new();
+        for letter in 0..x.letters.len() {
+            let there = live_after(x, &here, letter);
+            let number = *met.entry(there.clone()).or_insert(sets.len());
+            if number == sets.len() {
+                sets.push(there);
+                if sets.len() > 512 {
+                    return None;
+                }
+            }
+            targets.push(number);
+        }
+        behind.push(targets);
+    }
+    Some((sets, behind))
+}
+
+/// How many words of so many letters are accepted, and how many are not: how many words lead to each live set is carried on
+/// from the empty word, letter by letter.
+pub fn count_words(file: &[u8], length: u64, words_lent: usize) -> Result<(u64, u64), Refusal> {
+    if words_lent < 8192 {
+        return refuse(24, 0);
+    }
+    let x = read_one(file, 1)?;
+    if length > 64
+        || (x.letters.len() as u64)
+            .checked_pow(length as u32)
+            .is_none()
+    {
+        return refuse(31, 0);
+    }
+    if explore(&x).is_none() {
+        return refuse(21, 1);
+    }
+    let Some((sets, behind)) = live_sets(&x) else {
+        return refuse(23, 0);
+    };
+    let mut leading = vec![0u64; sets.len()];
+    leading[0] = 1;
+    for _ in 0..length {
+        let mut next = vec![0u64; sets.len()];
+        for (set, targets) in behind.iter().enumerate() {
+            for &target in targets {
+                next[target] += leading[set];
+            }
+        }
+        leading = next;
+    }
+    let mut counts = (0, 0);
+    for (set, words) in sets.iter().zip(leading) {
+        if is_accepted(&x, set) {
+            counts.0 += words;
+        } else {
+            counts.1 += words;
+        }
+    }
+    Ok(counts)
+}
+
+/// The same of a valid file with no limit looked at, each word by itself.
+pub fn count_each_word(file: &[u8], length: u64) -> (u64, u64) {
+    fn each(x: &Automaton, live: &LiveSet, left: u64) -> (u64, u64) {
+        if left == 0 {
+            return if is_accepted(x, live) { (1, 0) } else { (0, 1) };
+        }
+        let mut counts = (0, 0);
+        for letter in 0..x.letters.len() {
+            let (accepted, rejected) = each(x, &live_after(x, live, letter), left - 1);
+            counts = (counts.0 + accepted, counts.1 + rejected);
+        }
+        counts
+    }
+    let x = read(file).expect("a valid file");
+    each(&x, &live_at_start(&x), length)
 }
 
 // ---- joins

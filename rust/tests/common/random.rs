@@ -229,3 +229,24 @@ pub fn word(r: &mut Random, letters: &[u8]) -> Vec<u8> {
         })
         .collect()
 }
+
+/// A file whose words are to be counted: often one with few live sets, now and then damaged.
+pub fn counted(r: &mut Random, letters: &[u8]) -> Vec<u8> {
+    let any = if r.one_in(2) { automaton } else { sparse };
+    let bytes = write(&any(r, letters));
+    if r.one_in(12) {
+        damaged(r, bytes)
+    } else {
+        bytes
+    }
+}
+
+/// The length of words that are to be counted: short, at a limit, or beyond all limits.
+pub fn length(r: &mut Random) -> u64 {
+    match r.below(8) {
+        0 => r.of(&[10, 11, 27, 28, 31, 32, 40, 41, 63, 64, 65]),
+        1 => r.below(65) as u64,
+        2 => r.of(&[66, 1 << 32, u64::MAX]),
+        _ => r.below(7) as u64,
+    }
+}

@@ -97,8 +97,8 @@ decide-requires c κs =
         few = rw (lent e (f .flags-at .result) (f .flags-at .ensures)) (letters-few (s .args .first .now) (s .args .a) (s .pre .0 .first));
         first = one-of o .load .ensures .1 .place (o .if1 .left);
         second = m .load2 .ensures .1 .place (e .if2 .left);
-        listed₁ = tells-listed (first-prepared e .tells);
-        listed₂ = tells-listed (second-prepared e .tells);
+        listed₁ = tells-listed (first-prepared e .tells) (first-prepared e .few);
+        listed₂ = tells-listed (second-prepared e .tells) (second-prepared e .few);
       },
       s .pre .1 .1,
     )

@@ -1,22 +1,24 @@
--- `compare_search::explore_from` meets its contract. The loop's invariant: the pairs below i are expanded (Walked of proofs/ExploreFrom.antt).
+-- `compare_search::explore_from` meets its contract. The loop's invariant: the pairs below i are expanded (Walked of crate live_letters).
 use borrow.Author.Needs.{needs}
 use native.Mathlib.Omega.{arith}
 use mathlib.Core.Path.{_∙_}
 use Prim.Native.Nat.{_-_}
-use Rattle.compare_search.proofs.TableFrames.{ready-kept}
 use Rattle.word_fields.proofs.Laws.{kept-then}
-use Rattle.compare_search.proofs.ExploreFrom.{Walked, walk-end, walked-more, walked-over, walked-start}
+use Rattle.word_layout.specs.Layout.{firstBlock, pairTable}
+use Rattle.live_letters.proofs.Laws.{Walked, walk-end, walked-more, walked-over, walked-start}
+use Rattle.compare_search.specs.Searching.{Both}
+use Rattle.compare_search.proofs.BlockFrames.{both-kept, ready-kept}
 use Rattle.compare_search.proofs.explore_from.Statement.{statement}
 use Rattle.compare_search.proofs.explore_from.Tie as tie
 
 abbrev Inv-loop : tie.InvT-loop
-Inv-loop w₀ a one two n₀ i₀ w n i = Walked a one two w₀ w n i
+Inv-loop w₀ a one two n₀ i₀ w n i = Walked (λ s t. Both a s t w₀ one two) pairTable 0 firstBlock a w₀ w n i
 
 abbrev μ-loop : tie.MeasureT-loop
 μ-loop w₀ a one two n₀ i₀ w n i = 512 - i
 
 loop-holds : tie.Need-loop-holds Inv-loop μ-loop
-loop-holds c = walked-start _ _ _ _ (c .before .pre .1)
+loop-holds c = walked-start _ _ _ _ _ _ (c .before .pre .1)
 
 expand-requires : tie.Need-expand-requires Inv-loop μ-loop
 expand-requires c κs =
@@ -38,7 +40,7 @@ returns c =
     let o = i .before in
     let x = g .expand in
     let k = o .loop .inv in
-    (kept-then (k .kept) (x .ensures .0), (tt, walked-over (x .last .0) (x .result) (o .before .before .pre .0) (i .loop-test .taken) k (x .ensures .0) (x .ensures .1 .0) (x .ensures .1 .1) (c .enum-told .given .1)))
+    (kept-then (k .kept) (x .ensures .0), (tt, walked-over (x .last .0) (x .result) (i .loop-test .taken) k (x .ensures .0) (x .ensures .1 .0) (λ s t es e b. x .ensures .1 .1 s t es e (both-kept (k .kept) (o .before .before .pre .0) b)) (c .enum-told .given .1)))
 
 add-i : tie.Need-add-i Inv-loop μ-loop
 add-i c = let o = c .before .before .before .before .before .before .before .before in omega (arith, o .loop .inv .table .few)
@@ -53,7 +55,8 @@ loop-again c =
     let i = g .before .before in
     let o = i .before in
     let x = g .expand in
-    walked-more (x .last .0) (x .result) (o .before .before .pre .0) (i .loop-test .taken) (o .loop .inv) (x .ensures .0) (x .ensures .1 .0) (x .ensures .1 .1) (v .0 .0) (v .1)
+    let k = o .loop .inv in
+    walked-more (x .last .0) (x .result) (i .loop-test .taken) k (x .ensures .0) (x .ensures .1 .0) (λ s t es e b. x .ensures .1 .1 s t es e (both-kept (k .kept) (o .before .before .pre .0) b)) (v .0 .0) (v .1)
 
 same-length-2 : tie.Need-same-length-2 Inv-loop μ-loop
 same-length-2 c = c .before .loop .inv .kept .long
@@ -62,7 +65,7 @@ returns-2 : tie.Need-returns-2 Inv-loop μ-loop
 returns-2 c =
     let l = c .before .loop in
     let k = l .inv in
-    (k .kept, ((k .some-pair, k .table), λ s t q b h. walk-end _ s t q (l .i) 512 (c .loop-test .left) (omega (arith, k .few, k .table .few)) (k .walk s t q b h)))
+    (k .kept, ((k .some-row, k .table), λ s t q b h. walk-end _ _ s t q (l .i) 512 (c .loop-test .left) (omega (arith, k .few, k .table .few)) (k .walk s t q b h)))
 
 pub explore-from-spec : {M : Type 1} → statement M
 explore-from-spec =

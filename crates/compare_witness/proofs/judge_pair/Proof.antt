@@ -8,12 +8,12 @@ use Rattle.compare_witness.proofs.judge_pair.Statement.{statement}
 use Rattle.compare_witness.proofs.judge_pair.Tie as tie
 
 told : (m : tie.After-meets2) (X Y : Bool) → m .before .before .meets .result ≡ X → m .meets2 .result ≡ Y
-    → let a = m .before .before .before .before .before .args in Judges (a .w .now) (a .i) (a .f) (a .g) (alone X Y)
+    → let a = m .before .before .before .before .before .args in Judges (a .t) (a .w .now) (a .i) (a .f) (a .g) (alone X Y)
 told m X Y ex ey =
     let x = m .before .before in
     let a = x .before .before .before .args in
-    judges (a .w .now) (a .i) (a .f) (a .g) (x .before .load .result) (m .before .load2 .result) (x .meets .result) (m .meets2 .result) X Y
-    (x .before .load .ensures) (m .before .load2 .ensures) (x .meets .ensures) (m .meets2 .ensures) ex ey
+    judges (a .t) (a .w .now) (a .i) (a .f) (a .g) (x .before .left .result) (m .before .right .result) (x .meets .result) (m .meets2 .result) X Y
+    (x .before .left .ensures) (m .before .right .ensures) (x .meets .ensures) (m .meets2 .ensures) ex ey
 
 returns : tie.Need-returns
 unfolding alone
@@ -35,11 +35,8 @@ pub judge-pair-spec : {M : Type 1} → statement M
 judge-pair-spec =
     tie.close
     (tie.spec
-    (λ c. search needs)
     (λ c κs. search needs)
     (λ c κs. search needs)
-    (λ c. search needs)
-    (λ c. search needs)
     (λ c κs. search needs)
     (λ c κs. search needs)
     returns

@@ -1,7 +1,7 @@
--- `compare_witness::word_length` meets its contract. The loop's invariant: the word of pair k and the letters passed make up the whole length.
-use Rattle.compare_witness.proofs.WordOfPair.{spelled-zero, spelled-length}
+-- `compare_witness::word_length` meets its contract. The loop's invariant: the word of row k and the letters passed make up the whole length.
+use Rattle.compare_witness.proofs.WordOfRow.{spelled-zero, spelled-length}
 use Rattle.word_fields.specs.Fields.{field}
-use Rattle.word_layout.specs.Layout.{parents}
+use Rattle.word_layout.specs.Layout.{parentsAt}
 use Rattle.compare_witness.specs.Spelled.{spelled}
 use mathlib.Core.List.{List}
 use lib.ListN.{length}
@@ -12,13 +12,13 @@ use Rattle.compare_witness.proofs.word_length.Statement.{statement}
 use Rattle.compare_witness.proofs.word_length.Tie as tie
 
 abbrev Inv-loop : tie.InvT-loop
-Inv-loop w a n from k₀ len₀ k len = (len + k ≤ from) × (length (spelled w from from) ≡ length (spelled w from k) + len)
+Inv-loop w t a n from k₀ len₀ k len = (len + k ≤ from) × (length (spelled t w from from) ≡ length (spelled t w from k) + len)
 
 abbrev μ-loop : tie.MeasureT-loop
-μ-loop w a n from k₀ len₀ k len = k
+μ-loop w t a n from k₀ len₀ k len = k
 
 up : (c : tie.After-get16 Inv-loop μ-loop) → let o = c .before .before in let a = o .before .before .args in
-    (c .get16 .result / 64 < o .loop .k) × (length (spelled (a .w .now) (a .from) (o .loop .k)) ≡ length (spelled (a .w .now) (a .from) (c .get16 .result / 64)) + 1)
+    (c .get16 .result / 64 < o .loop .k) × (length (spelled (a .t) (a .w .now) (a .from) (o .loop .k)) ≡ length (spelled (a .t) (a .w .now) (a .from) (c .get16 .result / 64)) + 1)
 up c =
     let o = c .before .before in
     let s = o .before .before in
@@ -27,8 +27,8 @@ up c =
     let k = o .loop .k in
     let pos : 0 < k = omega (arith, c .before .loop-test .taken) in
     let low : k < a .n = omega (arith, r .low, o .loop .inv .0) in
-    let e : c .get16 .result ≡ field (a .w .now) parents k = c .get16 .ensures .0 in
-    (omega (arith, e, r .tree k pos low .0), spelled-length (a .w .now) (a .a) (a .n) (r .tree) (a .from) k pos low (omega (arith, o .loop .inv .0)) ∙ ap (λ (x : ℕ). length (spelled (a .w .now) (a .from) (x / 64)) + 1) (sym e))
+    let e : c .get16 .result ≡ field (a .w .now) (parentsAt (a .t)) k = c .get16 .ensures .0 in
+    (omega (arith, e, r .tree k pos low .0), spelled-length (a .t) (a .w .now) (a .a) (a .n) (r .tree) (a .from) k pos low (omega (arith, o .loop .inv .0)) ∙ ap (λ (x : ℕ). length (spelled (a .t) (a .w .now) (a .from) (x / 64)) + 1) (sym e))
 
 loop-holds : tie.Need-loop-holds Inv-loop μ-loop
 loop-holds c = (omega arith, omega arith)
@@ -56,7 +56,7 @@ returns c =
     let o = c .before in
     let a = o .before .before .args in
     let e : o .loop .k ≡ 0 = c .loop-test .left in
-    (omega (arith, o .loop .inv .1, ap (λ (k : ℕ). length (spelled (a .w .now) (a .from) k)) e, ap (λ (v : List ℕ). length v) (spelled-zero (a .w .now) (a .from))), omega (arith, o .loop .inv .0))
+    (omega (arith, o .loop .inv .1, ap (λ (k : ℕ). length (spelled (a .t) (a .w .now) (a .from) k)) e, ap (λ (v : List ℕ). length v) (spelled-zero (a .t) (a .w .now) (a .from))), omega (arith, o .loop .inv .0))
 
 pub word-length-spec : {M : Type 1} → statement M
 word-length-spec =

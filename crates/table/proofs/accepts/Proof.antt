@@ -1,4 +1,4 @@
--- `table::accepts` meets its contract: where the file is open, its rows are closed and the word is judged (Opening, Accepting).
+-- `table::accepts` meets its contract: where the file is open, its rows are closed and the word is judged (Opening, Standing).
 use borrow.Author.Needs.{needs}
 use mathlib.Core.Path.{_∙_, refl, subst, sym}
 use mathlib.Core.List.{[]}
@@ -9,8 +9,8 @@ use Rattle.format.specs.Decoding.{automatonOf}
 use Rattle.table.specs.Membership.{judged, membershipOf}
 use Rattle.table.specs.Opening.{HeldBy, Holds}
 use Rattle.table.specs.declared.Membership.the-variants.{Refused}
-use Rattle.table.proofs.ReadyLaws.{closed-ready}
 use Rattle.table.proofs.Opening.{opened-passed, opened-refused}
+use Rattle.table.proofs.Standing.{closed-stands}
 use Rattle.table.proofs.accepts.Statement.{statement}
 use Rattle.table.proofs.accepts.Tie as tie
 
@@ -37,7 +37,7 @@ judge-word-requires c κs =
     let k = c .before .before .before in
     let h = held (k .before .before .before) in
     let y = k .close-rows .ensures in
-    (closed-ready h (y .0) (y .1), (omega (arith, h .first), omega (arith, h .enough, y .0 .long)))
+    (closed-stands _ _ (h .valid) (h .placed) (h .indexed) (h .linked) (h .explored) (y .0) (y .1), (omega (arith, h .first), (omega (arith, h .first), omega (arith, h .enough, y .0 .long))))
 
 -- the word is judged
 returns-2 : tie.Need-returns-2

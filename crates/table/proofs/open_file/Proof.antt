@@ -12,8 +12,7 @@ use Rattle.file_laws.proofs.Laws.{valid-arcs}
 use Rattle.table_configurations.specs.declared.Explored.{Explored}
 use Rattle.table_explore.specs.Explores.{Explores}
 use Rattle.table.specs.declared.Opened.the-variants.{Refused}
-use Rattle.table.proofs.ReadyLaws.{valid-walkable}
-use Rattle.table.proofs.Opening.{opened-beyond, opened-fault, opened-open, opened-short, registers-are}
+use Rattle.table.proofs.Opening.{opened-beyond, opened-fault, opened-open, opened-short, registers-are, valid-walkable}
 use Rattle.table.proofs.open_file.Statement.{statement}
 use Rattle.table.proofs.open_file.Tie as tie
 

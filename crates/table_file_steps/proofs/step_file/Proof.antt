@@ -1,5 +1,6 @@
 -- `table_file_steps::step_file` meets its contract. The loop's invariant: the live configurations below c have been visited (Stepping of
 -- crate table_sets). The measure is how far c is from 256.
+use mathlib.Core.Logic.{inr}
 use Prim.Native.Nat.{_-_}
 use native.Mathlib.Omega.{arith}
 use Rattle.table_operations.proofs.Laws.{indexed-kept, linked-kept}
@@ -24,8 +25,8 @@ visit-file-requires c κs =
     let l = i .before .before in
     let b = l .before .before .before .before in
     let p = b .pre in
-    let same = map-kept (b .args .block) (p .1 .0) (p .1 .1 .0 .apart) (p .1 .1 .1 .configured .few) (l .loop .inv .kept) in (
-      (p .0 .0, (indexed-kept (b .args .w .now) (l .loop .w) (p .0 .0) (λ j h. same .words j (omega arith)) (p .0 .1 .0), linked-kept (b .args .w .now) (l .loop .w) (p .0 .0) (λ j h. same .words j (omega arith)) (p .0 .1 .1))),
+    let same = map-kept (b .args .block) (inr (p .1 .0)) (p .1 .1 .0 .apart) (p .1 .1 .1 .configured .few) (l .loop .inv .kept) in (
+      (p .0 .0, (indexed-kept (b .args .w .now) (l .loop .w) (p .0 .0) (λ j g h. same .words j g (omega arith)) (p .0 .1 .0), linked-kept (b .args .w .now) (l .loop .w) (p .0 .0) (λ j g h. same .words j g (omega arith)) (p .0 .1 .1))),
       (i .if1 .taken, (p .1 .0, (room-kept (same .rows) (p .1 .1 .0), findable-kept same (p .1 .1 .1)))),
     )
 
@@ -51,7 +52,7 @@ loop-again c =
     stepping-more (FromFile (b .args .file .now) (b .args .counts) (b .args .w .now) (b .args .block))
     {Own = FromFile (b .args .file .now) (b .args .counts) (l .loop .w) (b .args .block) (l .loop .c)} (v .visit-file .result) (omega (arith, i .if1 .taken, p .1 .1 .1 .configured .few)) (l .loop .inv)
     (v .visit-file .ensures .0) (v .visit-file .ensures .1)
-    (from-kept (map-kept (b .args .block) (p .1 .0) (p .1 .1 .0 .apart) (p .1 .1 .1 .configured .few) (l .loop .inv .kept)) (b .args .file .now) (b .args .counts) (l .loop .c) (i .if1 .taken))
+    (from-kept (map-kept (b .args .block) (inr (p .1 .0)) (p .1 .1 .0 .apart) (p .1 .1 .1 .configured .few) (l .loop .inv .kept)) (b .args .file .now) (b .args .counts) (l .loop .c) (i .if1 .taken))
     (c .next-live2 .ensures)
 
 same-length : tie.Need-same-length Inv-loop μ-loop

@@ -1,5 +1,6 @@
 -- `table_file_steps::visit_file` meets its contract. The loop's invariant: what has joined, with what is left of the chain, gives the
 -- whole (Following).
+use mathlib.Core.Logic.{inr}
 use Prim.Native.Nat.{_+_, _%_}
 use native.Mathlib.Omega.{arith}
 use Rattle.table_sets.proofs.Laws.{room-kept}
@@ -45,7 +46,7 @@ take-arc-requires c κs =
     let l = t .before .before in
     let s = l .before .before .before .before .before .before .before in
     let p = s .pre in
-    let same = map-kept (s .args .block) (p .1 .1 .0) (p .1 .1 .1 .0 .apart) (p .1 .1 .1 .1 .configured .few) (l .loop .inv .kept) in
+    let same = map-kept (s .args .block) (inr (p .1 .1 .0)) (p .1 .1 .1 .0 .apart) (p .1 .1 .1 .1 .configured .few) (l .loop .inv .kept) in
     (arc-here (l .loop .inv) (p .0 .0) (p .0 .1 .0) (p .0 .1 .1) (p .1 .1 .0) (t .if1 .taken) (g .get162 .ensures .0), (p .1 .1 .0, (room-kept (same .rows) (p .1 .1 .1 .0), findable-kept same (p .1 .1 .1 .1))))
 
 loop-less : tie.Need-loop-less Inv-loop μ-loop

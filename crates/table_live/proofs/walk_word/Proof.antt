@@ -1,16 +1,20 @@
 -- `table_live::walk_word` meets its contract. The loop's invariant: what is left of the word leads from the set where the whole
 -- word leads from the first one (Walking of proofs/WalkWord.antt).
 use borrow.Author.Needs.{needs}
-use mathlib.Core.Path.{_∙_, _≡_, sym}
-use Prim.Native.Nat.{_-_}
+use mathlib.Core.Path.{_∙_, _≡_, subst, sym}
+use mathlib.Core.Logic.{inr, ⊎-elim}
+use mathlib.Core.List.{List}
+use Prim.Native.Nat.{ℕ, _+_, _-_, _<_}
 use native.Mathlib.Omega.{arith}
 use lib.ListN.{getD, length}
 use Rattle.file_fields.specs.Letters.{letterNumber}
 use Rattle.file_fields.specs.Parts.{letterBytes}
 use Rattle.file_fields.specs.declared.letters.Letter.the-variants.{At}
 use Rattle.file_fields.proofs.Laws.{letters-length}
+use Rattle.word_fields.proofs.Laws.{kept-same}
+use Rattle.table_letters.specs.Lettered.{Lettered}
 use Rattle.table_letters.proofs.Laws.{lettered-kept}
-use Rattle.table_file_steps.proofs.Laws.{map-kept}
+use Rattle.table_file_steps.proofs.Laws.{SameMap, map-kept}
 use Rattle.table_live.proofs.StepFrame.{steppable-kept}
 use Rattle.table_live.proofs.WalkWord.{Walking, letter-lt, walking-end, walking-foreign, walking-more, walking-start}
 use Rattle.table_live.proofs.walk_word.Statement.{statement}
@@ -34,31 +38,60 @@ returns c =
     let l = n .before .before .before in
     (l .loop .inv .kept, walking-foreign (l .loop .inv) (n .before .before .loop-test .taken) (sym (n .letter-number .ensures) ∙ c .enum-told .given .1))
 
--- the letter that is found
-letter : (c : tie.After-l Inv-loop μ-loop) → let l = c .before .before .before .before .before in let a = l .before .before .before .before .args in
-    letterNumber (getD (a .word .now) (l .loop .i) 0) (letterBytes (a .c) (a .file .now)) ≡ At (c .l .given .0 .0)
-letter c = sym (c .before .before .letter-number .ensures) ∙ c .l .given .1
+abbrev turn : tie.After-l Inv-loop μ-loop → tie.At-loop Inv-loop μ-loop
+turn f = f .before .before .before .before .before
 
-step-letter-requires : tie.Need-step-letter-requires Inv-loop μ-loop
-step-letter-requires c κs =
-    let f = c .before .before in
-    let l = f .before .before .before .before .before in
-    let s = l .before .before .before .before in
-    let p = s .pre in
-    let few = p .0 .findable .configured .few in
-    let same = map-kept (s .args .block) (omega arith) (p .0 .room .apart) few (l .loop .inv .kept) in (
-      omega (arith, letter-lt _ _ _ (letter f), letters-length (s .args .c) (s .args .file .now) (omega (arith, p .0 .walkable .lies .fits)), p .0 .walkable .letters),
-      (steppable-kept same (p .0), lettered-kept (same .rows) (λ i h. l .loop .inv .kept .above i (omega arith)) few (p .1)),
-    )
+abbrev start : tie.At-loop Inv-loop μ-loop → tie.Start Inv-loop μ-loop
+start l = l .before .before .before .before
+
+-- the letter that is found
+letter : (f : tie.After-l Inv-loop μ-loop) → let l = turn f in let a = start l .args in letterNumber (getD (a .word .now) (l .loop .i) 0) (letterBytes (a .c) (a .file .now)) ≡ At (f .l .given .0 .0)
+letter f = sym (f .before .before .letter-number .ensures) ∙ f .l .given .1
+
+low : (f : tie.After-l Inv-loop μ-loop) → f .l .given .0 .0 < 64
+low f =
+    let s = start (turn f) in
+    let p = s .pre .0 in
+    omega (arith, letter-lt _ _ _ (letter f), letters-length (s .args .c) (s .args .file .now) (omega (arith, p .walkable .lies .fits)), p .walkable .letters)
+
+-- the steps so far have left the block and the building's tables
+same : (l : tie.At-loop Inv-loop μ-loop) → let a = start l .args in SameMap (a .block) (a .w .now) (l .loop .w)
+same l = let s = start l in map-kept (s .args .block) (inr (omega arith)) (s .pre .0 .room .apart) (s .pre .0 .findable .configured .few) (l .loop .inv .kept)
+
+lettered : (l : tie.At-loop Inv-loop μ-loop) → Lettered (l .loop .w) (start l .args .block)
+lettered l = let p = start l .pre in lettered-kept (same l .rows) (λ i h. l .loop .inv .kept .above i (omega arith)) (p .0 .findable .configured .few) (p .1)
+
+follow-requires : tie.Need-follow-requires Inv-loop μ-loop
+follow-requires c κs =
+    let t = c .before in
+    let f = t .before .before .before in
+    (omega (arith, low f), lettered (turn f) (t .if1 .taken) .0)
+
+step-in-file-requires : tie.Need-step-in-file-requires Inv-loop μ-loop
+step-in-file-requires c κs =
+    let e = c .before in
+    let f = e .before .before .before in
+    (low f, (steppable-kept (same (turn f)) (start (turn f) .pre .0), omega (arith, e .if1 .left)))
+
+-- the invariant behind the letter of this turn
+abbrev Behind : tie.At-loop Inv-loop μ-loop → (w set : List ℕ) → Type 0
+Behind l w set = let a = start l .args in Walking (a .file .now) (a .c) (a .word .now) (a .w .now) (a .block) (a .from) w set (l .loop .i + 1)
 
 loop-again : tie.Need-loop-again Inv-loop μ-loop
 loop-again c =
-    let s = c .before .before in
-    let f = s .before .before .before in
+    let f = c .before .before .before in
     let i = f .before .before .before .before in
-    let l = i .before in
-    let b = l .before .before .before .before in
-    walking-more (l .loop .inv) (b .pre .0) (i .loop-test .taken) (letter f) (s .step-letter .ensures .0) (s .step-letter .ensures .1)
+    let l = turn f in
+    let s = start l in
+    ⊎-elim
+    (λ x.
+    let h = x .0 .taken in
+    subst (λ (w : List ℕ). Behind l w (c .if1 .set)) (sym (x .3)) (subst (λ (set : List ℕ). Behind l (l .loop .w) set) (sym (x .4))
+    (walking-more (l .loop .inv) (s .pre .0) (i .loop-test .taken) (letter f) (kept-same _ _ _) (λ arcs out settled. x .2 .ensures _ arcs (lettered l h .1) (out .told .held h) settled))))
+    (λ x.
+    subst (λ (w : List ℕ). Behind l w (c .if1 .set)) (sym (x .5)) (subst (λ (set : List ℕ). Behind l (x .2 .last .1 .1 .0) set) (sym (x .6))
+    (walking-more (l .loop .inv) (s .pre .0) (i .loop-test .taken) (letter f) (x .2 .ensures .0) (x .2 .ensures .1))))
+    (c .if1 .came)
 
 same-length-2 : tie.Need-same-length-2 Inv-loop μ-loop
 same-length-2 c = c .before .loop .inv .kept .long
@@ -80,7 +113,9 @@ walk-word-spec =
     same-length
     returns
     (λ c. search needs)
-    step-letter-requires
+    follow-requires
+    (λ c. search needs)
+    step-in-file-requires
     (λ c. omega arith)
     (λ c. omega arith)
     loop-again

@@ -1,6 +1,6 @@
 -- `compare::loading::load` meets its contract: the automaton is refused by a limit, or it stands in its block and is pruned.
 use borrow.Author.Needs.{needs}
-use mathlib.Core.Path.{_∙_, _≡_, subst, sym}
+use mathlib.Core.Path.{_∙_, _≡_, refl, subst, sym}
 use native.Mathlib.Omega.{arith}
 use Rattle.word_fields.specs.Frame.{KeptBut}
 use Rattle.word_fields.proofs.Laws.{but-then, but-wider}
@@ -55,18 +55,36 @@ stands z = let s = start (from z) in subst (λ (r : Explored). StandsBy (s .args
 final-configurations-requires : tie.Need-final-configurations-requires
 final-configurations-requires c κs = stands-numbered (stands (c .before .before))
 
-prune-requires : tie.Need-prune-requires
-prune-requires c κs =
-    let e = c .before .before .before in
-    let z = e .before in
-    let s = start (from z) in
-    (omega (arith, s .pre .1 .0), (omega (arith, s .pre .1 .1, from z .build .ensures .0 .long), tells-listed (stands-tells (stands z) (e .if1 .left))))
+mul-if2 : tie.Need-mul-if2
+mul-if2 c = omega (arith, stands-numbered (stands (c .before .before .before)) .few)
 
--- and is pruned there
+-- it stands there as it is, with so few plain arcs
 returns-3 : tie.Need-returns-3
 returns-3 c =
+    let f = c .before in
+    let e = f .before .before in
+    let z = e .before in
+    let s = start (from z) in (
+      building (from z),
+      record {
+        refused = limit-none _ 256 2048 (found z) (e .if1 .left);
+        place = λ _. refl;
+        prepared = λ _. prepared (f .final-configurations .result) (s .pre .0) (stands z) (e .if1 .left) (f .final-configurations .ensures) refl (omega arith) (λ letters arcs few t. t);
+      },
+    )
+
+prune-requires : tie.Need-prune-requires
+prune-requires c κs =
+    let e = c .before .before .before .before in
+    let z = e .before in
+    let s = start (from z) in
+    (omega (arith, s .pre .1 .0), (omega (arith, s .pre .1 .1, from z .build .ensures .0 .long), tells-listed (stands-tells (stands z)) (e .if1 .left)))
+
+-- and is pruned there
+returns-4 : tie.Need-returns-4
+returns-4 c =
     let p = c .before .before in
-    let f = p .before .before in
+    let f = p .before .before .before in
     let e = f .before .before in
     let z = e .before in
     let s = start (from z) in
@@ -75,7 +93,7 @@ returns-3 c =
       record {
         refused = limit-none _ 256 2048 (found z) (e .if1 .left);
         place = λ _. r .1 .0 .0;
-        prepared = λ _. prepared (f .final-configurations .result) (s .pre .0) (stands z) (e .if1 .left) (f .final-configurations .ensures) (r .1 .0 .1) (r .1 .1);
+        prepared = λ _. prepared (f .final-configurations .result) (s .pre .0) (stands z) (e .if1 .left) (f .final-configurations .ensures) (r .1 .0 .1) (r .1 .0 .2) (r .1 .1);
       },
     )
 
@@ -93,6 +111,9 @@ load-spec =
     (λ c. search needs)
     returns-2
     final-configurations-requires
+    mul-if2
+    (λ c. search needs)
+    returns-3
     prune-requires
     (λ c. search needs)
-    returns-3)
+    returns-4)

@@ -57,7 +57,7 @@ since l w k =
     let p = prepared l .prepare .ensures in
     let y = start l .pre .0 in (
       but-then (but-wider (omega arith) (omega arith) (omega arith) (omega arith) (p .0)) (but-wider (omega arith) (omega arith) (omega arith) (omega arith) k),
-      (indexed-kept (first l) w y (λ j h. k .below j (omega arith)) (p .1 .0 .0), linked-kept (first l) w y (λ j h. k .below j h) (p .1 .0 .1)),
+      (indexed-kept (first l) w y (λ j g h. k .below j (omega arith)) (p .1 .0 .0), linked-kept (first l) w y (λ j g h. k .below j h) (p .1 .0 .1)),
     )
 
 note-start-requires : tie.Need-note-start-requires Inv-loop μ-loop

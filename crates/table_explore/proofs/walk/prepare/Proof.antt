@@ -30,8 +30,8 @@ returns c =
           (but-then (but-low (omega arith) (omega arith) (omega arith) (f .ensures .0)) (but-wider (omega arith) (omega arith) (omega arith) (omega arith) (a .ensures .0)))),
       (
         (
-          indexed-kept _ _ y (λ j h. a .ensures .0 .below j (omega arith) ∙ f .ensures .0 .below j (omega arith) ∙ l .ensures .0 .below j h) (i .ensures .1),
-          linked-kept _ _ y (λ j h. a .ensures .0 .below j h ∙ f .ensures .0 .below j (omega arith)) (l .ensures .1),
+          indexed-kept _ _ y (λ j g h. a .ensures .0 .below j (omega arith) ∙ f .ensures .0 .below j (omega arith) ∙ l .ensures .0 .below j h) (i .ensures .1),
+          linked-kept _ _ y (λ j g h. a .ensures .0 .below j h ∙ f .ensures .0 .below j (omega arith)) (l .ensures .1),
         ),
         (a .ensures .1 .0, a .ensures .1 .1 0 [] [] (tabled-none _ _) refl),
       ),

@@ -1,0 +1,3 @@
+pub mod Slots
+pub mod RoundLaws
+pub mod EndLaws

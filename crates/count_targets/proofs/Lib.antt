@@ -1,0 +1,4 @@
+pub mod Numbering
+pub mod CountingLaws
+pub mod NotingLaws
+pub mod Laws

@@ -1,0 +1,5 @@
+pub mod TableFrames
+pub mod MeetRow
+pub mod MeetLetters
+pub mod Walking
+pub mod Laws

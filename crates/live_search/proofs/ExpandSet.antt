@@ -1,0 +1,39 @@
+-- ExpandSet: a step from the set of a row leaves, for each letter, the set behind it, which is both sets of the pair behind that letter.
+use mathlib.Core.Path.{_∙_, _≡_, ap, subst, sym}
+use mathlib.Core.Bool.{Bool}
+use mathlib.Core.List.{List}
+use mathlib.Core.Option.{some}
+use Prim.Native.Nat.{_-_, _<_, ℕ}
+use lib.ListN.{getElem?}
+use Rattle.automata.specs.Live.{PlainArc, byLetter}
+use Rattle.automata.specs.Pairs.{Pair}
+use Rattle.automata.specs.Search.{Entry}
+use Rattle.file_fields.specs.declared.Counts.{Counts}
+use Rattle.word_sets.specs.Sets.{view, εClosedSet}
+use Rattle.word_layout.specs.declared.Block.{Block}
+use Rattle.word_layout.specs.declared.SetTable.{SetTable}
+use Rattle.table_live.specs.Steps.{Outgoing}
+use Rattle.live_table.specs.Entries.{Holds, Side}
+use Rattle.live_table.specs.SetRows.{leftRow}
+use Rattle.live_letters.specs.Meeting.{Behind}
+use Rattle.live_sets.proofs.Laws.{same-row}
+use Rattle.live_search.specs.Exploring.{Twins}
+
+-- what a step from the set u, of the automaton of the block, tells of the sets that it leaves for each letter
+abbrev pub Stepped : (file : List ℕ) (c : Counts) (w : List ℕ) (block : Block) (u : List ℕ) (sets : ℕ → List ℕ) → Type 0
+Stepped file c w block u sets =
+    (arcs : List PlainArc) → Outgoing file c w block arcs → εClosedSet (block .count) arcs u → (l : ℕ) → l < c .letters
+    → (view (block .count) (sets l) ≡ byLetter (block .count) arcs (view (block .count) u) l) × εClosedSet (block .count) arcs (sets l)
+
+module _ {file : List ℕ} {c : Counts} {w : List ℕ} {block : Block} {tab : SetTable} {u : List ℕ} (sets : ℕ → List ℕ) (one : tab .sets ≡ 1) (i from : ℕ)
+    (eu : u ≡ leftRow tab w i) (f : Stepped file c w block u sets) where
+  pub letters-behind : (x y : Side) (es : List (Entry Pair)) (e : Entry Pair) → Twins file c w block x y → Holds tab x y w from es → getElem? es i ≡ some e
+      → (l : ℕ) → l < c .letters → Behind x (e .state .left) l (sets l) × Behind y (e .state .right) l (sets l)
+  letters-behind x y es e b h p l hl =
+      let r = h .each i e p in
+      let h₁ : view (x .size) u ≡ e .state .left = ap (view (x .size)) eu ∙ r .left in
+      let h₂ : view (y .size) u ≡ e .state .right = ap (view (y .size)) (eu ∙ sym (same-row tab one w i)) ∙ r .right in
+      let k = subst (λ (k : ℕ). εClosedSet k (x .arcs) u → (view k (sets l) ≡ byLetter k (x .arcs) (view k u) l) × εClosedSet k (x .arcs) (sets l)) (sym (b .size)) (λ z. f (x .arcs) (b .told) z l hl)
+      (subst (λ (v : List ℕ). εClosedSet (x .size) (x .arcs) v) (sym eu) (r .settled₁)) in
+      let first : (S : List Bool) → view (x .size) u ≡ S → Behind x S l (sets l) = λ S q. (k .0 ∙ ap (λ (S : List Bool). byLetter (x .size) (x .arcs) S l) q, k .1) in
+      (first (e .state .left) h₁, subst (λ (z : Side). view (z .size) u ≡ e .state .right → Behind z (e .state .right) l (sets l)) (sym (b .twin)) (first (e .state .right)) h₂)

@@ -1,0 +1,3 @@
+pub mod SearchFrames
+pub mod ExpandSet
+pub mod TwinRows

@@ -1,0 +1,58 @@
+-- `live_search::expand_set` meets its contract: the step leaves the set behind each letter, and then the letters are met.
+use borrow.Author.Needs.{needs}
+use native.Mathlib.Omega.{arith}
+use mathlib.Core.Logic.{inr}
+use mathlib.Core.Path.{refl}
+use Rattle.word_fields.proofs.Laws.{kept-then, kept-wider}
+use Rattle.table_sets.specs.Stepping.{setOf}
+use Rattle.live_table.proofs.Laws.{tabled-kept}
+use Rattle.live_letters.proofs.Laws.{holds-kept, table-kept}
+use Rattle.live_search.proofs.ExpandSet.{letters-behind}
+use Rattle.live_search.proofs.expand_set.Statement.{statement}
+use Rattle.live_search.proofs.expand_set.Tie as tie
+
+left-requires : tie.Need-left-requires
+left-requires c κs = let s = c .before .before .before in (omega (arith, s .pre .1 .0, s .pre .1 .1 .few), s .pre .0 .tabled)
+
+step-letters-requires : tie.Need-step-letters-requires
+step-letters-requires c κs =
+    let p = c .before .before .before .before .before .pre .0 in
+    (p .steps, omega (arith, p .above-tables, p .tabled .before, p .behind))
+
+meet-letters-requires : tie.Need-meet-letters-requires
+meet-letters-requires c κs =
+    let m = c .before .before .before in
+    let s = m .before .before .before .before .before .before in
+    let p = s .pre .0 in
+    let k = m .step-letters .ensures .0 in (
+      (p .steps .walkable .letters, s .pre .1 .0),
+      (
+        (
+          (tabled-kept k (p .tabled), p .one),
+          record { behind₁ = p .behind; behind₂ = p .behind; long₁ = omega (arith, k .long, p .steps .room .rows); long₂ = omega (arith, k .long, p .steps .room .rows); one = λ _. (refl, refl) },
+        ),
+        table-kept (p .tabled) k (inr (p .behind)) (s .pre .1 .1),
+      ),
+    )
+
+returns : tie.Need-returns
+returns c =
+    let m = c .before .before in
+    let q = m .before .before .before .before in
+    let x = q .before .before in
+    let s = x .before .before .before .before in
+    let a = s .args in
+    let p = s .pre .0 in
+    let k = q .step-letters .ensures .0 in
+    let f = m .meet-letters .ensures in (
+      kept-then (kept-wider (omega (arith, p .tabled .before, p .behind)) (omega arith) k) (kept-wider (omega arith) (omega (arith, p .behind)) (f .0)),
+      (
+        f .1 .0,
+        λ u v es e b h z. f .1 .1 u v es e
+            (letters-behind (setOf (q .step-letters .last .1 .1 .0) (a .acc) (q .step-letters .result)) (p .one) (a .i) (a .from) (x .left .ensures) (q .step-letters .ensures .1) u v es e b h z)
+            (holds-kept (p .tabled) k (inr (p .behind)) (s .pre .1 .1 .few) h) z,
+      ),
+    )
+
+pub expand-set-spec : {M : Type 1} → statement M
+expand-set-spec = tie.close (tie.spec left-requires step-letters-requires meet-letters-requires (λ c. search needs) returns)

@@ -1,0 +1,2 @@
+pub mod SameRow
+pub mod Laws

@@ -1,0 +1,4 @@
+pub mod RowNumbers
+pub mod AddRow
+pub mod RowFrames
+pub mod Laws
