@@ -36,7 +36,7 @@ row-four w base i h f = record { long = row-length w base i h; fits = λ q. go q
 
 -- one digit of one word tells whether k is in row i
 pub holds-row : (w : List ℕ) (base i k : ℕ) → k < 256
-    → not (eqb (bitAnd (getD w (base + 4 * i + k / 64) 0) (1 * 2 ^ bitAnd k 63 % 2 ^ 64)) 0) ≡ related w base i k
+    → not (eqb (bitAnd (getD w (base + 4 * i + k / 64) 0) (2 ^ (k % 64))) 0) ≡ related w base i k
 unfolding related
 holds-row w base i k h = rw (← row-at w base i (k / 64) (omega arith)) (has-set (row w base i) k)
 

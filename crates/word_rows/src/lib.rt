@@ -11,6 +11,8 @@ ghost use Rattle.word_rows.specs.Rows.{row, related, Link, Closure};
 use word_sets::common;
 use word_sets::empty;
 use word_sets::next_live;
+use word_sets::places::mask_of;
+use word_sets::places::word_of;
 use word_sets::same;
 use word_sets::union;
 use word_sets::with;
@@ -45,7 +47,7 @@ fn holds(w: &[u64], base: usize, i: usize, k: usize) -> bool
     requires { ⌜ (k < 256) × (base + 4 * i + 4 ≤ length (now w)) ⌝ }
     ensures { λ r. ⌜ r ≡ related (now (w .entry)) base i k ⌝ }
 {
-    w[base + 4 * i + (k >> 6)] & (1u64 << (k & 63)) != 0
+    w[base + 4 * i + word_of(k)] & mask_of(k) != 0
 }
 
 // What k is related to, each row that has k is now related to as well. Row k is read once: it does not change.

@@ -8,14 +8,9 @@ use native.Mathlib.Omega.{arith}
 use borrow.Author.Tests.{ne-eqb}
 use lib.Dec.{T, eqb, eqb·zero-suc, eqb·suc-zero, eqb·suc-suc, lit<}
 use lib.Pow.{shl-exact, shr-shr, pow-pos, pow-lt, pow-mono, high-ones}
-use lib.Bits.{bitAnd, bitOr, bitXor, and-high, and-mask, or-shr, or-mod, and-shr, and-mod, or-add-and, xor-add-and, xor-self, and-le-l, and-le-r}
+use lib.Bits.{bitAnd, bitOr, bitXor, and-high, or-shr, or-mod, and-shr, and-mod, or-add-and, xor-add-and, xor-self, and-le-l, and-le-r}
 use lib.Count.{trailingZeros, under}
 use Rattle.word_sets.specs.Sets.{bit}
-
--- ---- the place of a number in a set: the shift by 6 is the quotient by 64 as it stands, and the mask is the remainder
-
-pub mask-is : (k : ℕ) → bitAnd k 63 ≡ k % 64
-mask-is k = and-mask k 6
 
 -- ---- one digit
 
@@ -79,10 +74,7 @@ bit-or = bit-wise bitOr (λ p q. p || q) or-shr or-mod (digits (λ x y. eqb (bit
 pub bit-and : (a b j : ℕ) → bit (bitAnd a b) j ≡ (bit a j && bit b j)
 bit-and = bit-wise bitAnd (λ p q. p && q) and-shr and-mod (digits (λ x y. eqb (bitAnd x y) 1 ≡ (eqb x 1 && eqb y 1)) refl refl refl refl)
 
--- ---- the mask of one digit: `1 << k`
-
-one-shl : (k : ℕ) → k < 64 → 1 * 2 ^ k % 2 ^ 64 ≡ 2 ^ k
-one-shl k h = shl-exact {a = 1} 1 k 64 (lit< tt) (omega arith) ∙ one-mul (2 ^ k)
+-- ---- the word whose one digit 1 is digit k
 
 and-one : (x k : ℕ) → bitAnd x (2 ^ k) ≡ x / 2 ^ k % 2 * 2 ^ k
 and-one x k = subst (λ (m : ℕ). bitAnd x m ≡ x / 2 ^ k % 2 * 2 ^ k) (high-ones 1 k ∙ one-mul (2 ^ k)) (and-high x 1 k)
@@ -93,16 +85,23 @@ digit-test (suc zero) p h q = ap not (ne-eqb (1 * p) 0 (λ e. omega (arith, e)))
 digit-test (suc (suc d)) p h q = absurd (omega arith)
 
 -- to test a digit
-pub has-bit : (x k : ℕ) → k < 64 → not (eqb (bitAnd x (1 * 2 ^ k % 2 ^ 64)) 0) ≡ bit x k
+pub has-digit : (x k : ℕ) → not (eqb (bitAnd x (2 ^ k)) 0) ≡ bit x k
 unfolding bit
-has-bit x k h =
-    ap (λ (m : ℕ). not (eqb (bitAnd x m) 0)) (one-shl k h) ∙ ap (λ (m : ℕ). not (eqb m 0)) (and-one x k)
-    ∙ digit-test (x / 2 ^ k % 2) (2 ^ k) (mod-lt (x / 2 ^ k) (lit< tt)) (pow-pos k)
+has-digit x k = ap (λ (m : ℕ). not (eqb m 0)) (and-one x k) ∙ digit-test (x / 2 ^ k % 2) (2 ^ k) (mod-lt (x / 2 ^ k) (lit< tt)) (pow-pos k)
 
 -- to set a digit
+pub with-digit : (x k j : ℕ) → bit (bitOr x (2 ^ k)) j ≡ (eqb j k || bit x j)
+with-digit x k j = bit-or x (2 ^ k) j ∙ or-comm (bit x j) (bit (2 ^ k) j) ∙ ap (λ (b : Bool). b || bit x j) (bit-pow k j)
+
+-- `1 << k` is that word; so a digit is tested and set by it
+pub one-shl : (k : ℕ) → k < 64 → 1 * 2 ^ k % 2 ^ 64 ≡ 2 ^ k
+one-shl k h = shl-exact {a = 1} 1 k 64 (lit< tt) (omega arith) ∙ one-mul (2 ^ k)
+
+pub has-bit : (x k : ℕ) → k < 64 → not (eqb (bitAnd x (1 * 2 ^ k % 2 ^ 64)) 0) ≡ bit x k
+has-bit x k h = ap (λ (m : ℕ). not (eqb (bitAnd x m) 0)) (one-shl k h) ∙ has-digit x k
+
 pub bit-with : (x k : ℕ) → k < 64 → (j : ℕ) → bit (bitOr x (1 * 2 ^ k % 2 ^ 64)) j ≡ (eqb j k || bit x j)
-bit-with x k h j =
-    ap (λ (m : ℕ). bit (bitOr x m) j) (one-shl k h) ∙ bit-or x (2 ^ k) j ∙ or-comm (bit x j) (bit (2 ^ k) j) ∙ ap (λ (b : Bool). b || bit x j) (bit-pow k j)
+bit-with x k h j = ap (λ (m : ℕ). bit (bitOr x m) j) (one-shl k h) ∙ with-digit x k j
 
 -- ---- words by their digits
 

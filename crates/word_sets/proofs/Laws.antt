@@ -6,4 +6,4 @@ pub use Rattle.word_sets.proofs.Views.{set-ext}
 pub use Rattle.word_sets.proofs.Views.{count-within, in-view, length-view, meets-view, view-is}
 pub use Rattle.word_sets.proofs.Tables.{count-none, table-ext}
 -- one digit of a word, tested and set by the mask `1 << k`
-pub use Rattle.word_sets.proofs.Bits.{bit-or, bit-with, bit-zero, has-bit, mask-is}
+pub use Rattle.word_sets.proofs.Bits.{bit-or, bit-with, bit-zero, has-bit}

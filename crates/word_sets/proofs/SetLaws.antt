@@ -20,7 +20,7 @@ use denote.Array.{Array, each}
 use denote.Shadow.{shadow}
 use denote.Laws.{Is}
 use Rattle.word_sets.specs.Sets.{bit, inSet}
-use Rattle.word_sets.proofs.Bits.{mask-is, has-bit, bit-or, bit-and, bit-with, bit-zero, trailing, or-is-zero, xor-is-zero}
+use Rattle.word_sets.proofs.Bits.{has-digit, with-digit, bit-or, bit-and, bit-zero, trailing, or-is-zero, xor-is-zero}
 
 -- what every value of type [u64; 4] is
 pub record Four (s : List ℕ) : Type 0 where
@@ -53,9 +53,9 @@ place s q i h = let d : (64 * q + i) / 64 ≡ q = omega arith in let m : (64 * q
 
 -- ---- has, with, empty
 
-pub has-set : (s : List ℕ) (k : ℕ) → not (eqb (bitAnd (getD s (k / 64) 0) (1 * 2 ^ bitAnd k 63 % 2 ^ 64)) 0) ≡ inSet s k
+pub has-set : (s : List ℕ) (k : ℕ) → not (eqb (bitAnd (getD s (k / 64) 0) (2 ^ (k % 64))) 0) ≡ inSet s k
 unfolding inSet
-has-set s k = rw (mask-is k) (has-bit (getD s (k / 64) 0) (k % 64) (omega arith))
+has-set s k = has-digit (getD s (k / 64) 0) (k % 64)
 
 same-test : (a b c d : ℕ) → (a ≡ b → c ≡ d) → (c ≡ d → a ≡ b) → eqb a b ≡ eqb c d
 same-test a b c d f g = go (ℕ-discrete a b)
@@ -65,17 +65,17 @@ same-test a b c d f g = go (ℕ-discrete a b)
     go (no n) = ne-eqb a b n ∙ sym (ne-eqb c d (λ e. n (g e)))
 
 pub with-set : (s : List ℕ) (k : ℕ) → k / 64 < length s → (j : ℕ)
-    → inSet (set s (k / 64) (bitOr (getD s (k / 64) 0) (1 * 2 ^ bitAnd k 63 % 2 ^ 64))) j ≡ (eqb j k || inSet s j)
+    → inSet (set s (k / 64) (bitOr (getD s (k / 64) 0) (2 ^ (k % 64)))) j ≡ (eqb j k || inSet s j)
 unfolding inSet
-with-set s k h j = rw (mask-is k) (go (ℕ-discrete (j / 64) (k / 64)))
+with-set s k h j = go (ℕ-discrete (j / 64) (k / 64))
   where
     new : ℕ
-    new = bitOr (getD s (k / 64) 0) (1 * 2 ^ (k % 64) % 2 ^ 64)
+    new = bitOr (getD s (k / 64) 0) (2 ^ (k % 64))
 
     go : Dec (j / 64 ≡ k / 64) → bit (getD (set s (k / 64) new) (j / 64) 0) (j % 64) ≡ (eqb j k || bit (getD s (j / 64) 0) (j % 64))
     go (yes e) =
         rw (e, getD-set-same s (k / 64) new 0 h)
-        (bit-with (getD s (k / 64) 0) (k % 64) (omega arith) (j % 64)
+        (with-digit (getD s (k / 64) 0) (k % 64) (j % 64)
         ∙ ap (λ (t : Bool). t || bit (getD s (k / 64) 0) (j % 64)) (same-test (j % 64) (k % 64) j k (λ p. omega arith) (λ p. omega arith)))
     go (no n) =
         ap (λ (x : ℕ). bit x (j % 64)) (getD-set-other s (k / 64) (j / 64) new 0 n)

@@ -1,4 +1,4 @@
-// word_sets: sets of numbers below 256 by value. Number k is digit `k & 63` of word `k >> 6`.
+// word_sets: sets of numbers below 256 by value, four words of 64 digits each.
 ghost use mathlib.Core.Path.{_≡_};
 ghost use mathlib.Core.Logic.{_↔_};
 ghost use mathlib.Core.Bool.{false, _||_, _&&_};
@@ -6,6 +6,11 @@ ghost use Prim.Native.Nat.{ℕ, _≤_, _<_};
 ghost use lib.Dec.{eqb, T};
 ghost use Rattle.automata.specs.Live.{count};
 ghost use Rattle.word_sets.specs.Sets.{inSet, view, Next};
+use places::digit_of;
+use places::mask_of;
+use places::word_of;
+
+pub mod places;
 
 // Is k in the set?
 // Cost: constant.
@@ -13,7 +18,7 @@ pub fn has(set: [u64; 4], k: usize) -> bool
     requires { ⌜ k < 256 ⌝ }
     ensures { λ r. ⌜ r ≡ inSet set k ⌝ }
 {
-    set[k >> 6] & (1u64 << (k & 63)) != 0
+    set[word_of(k)] & mask_of(k) != 0
 }
 
 // The set with k.
@@ -23,7 +28,8 @@ pub fn with(set: [u64; 4], k: usize) -> [u64; 4]
     ensures { λ r. ⌜ ((j : ℕ) → inSet r j ≡ (eqb j k || inSet set j)) ⌝ }
 {
     let mut out = set;
-    out[k >> 6] = out[k >> 6] | (1u64 << (k & 63));
+    let q = word_of(k);
+    out[q] = out[q] | mask_of(k);
     out
 }
 
@@ -97,7 +103,7 @@ pub fn next_live(set: [u64; 4], c: usize) -> usize
     let mut q: usize = 0;
     while q < 4 {
         if at < 64 * q + 64 {
-            let x = set[q] >> (at & 63);
+            let x = set[q] >> digit_of(at);
             if x != 0 {
                 return at + u64::trailing_zeros(x) as usize;
             }

@@ -1,16 +1,14 @@
--- `word_rows::holds` meets its contract: the mask of one digit tells whether it is 1.
+-- `word_rows::holds` meets its contract: one digit of one word tells.
 use borrow.Author.Needs.{needs}
 use native.Mathlib.Omega.{arith}
-use Rattle.word_sets.proofs.Laws.{mask-is}
 use Rattle.word_rows.proofs.RowLaws.{holds-row}
 use Rattle.word_rows.proofs.holds.Statement.{statement}
 use Rattle.word_rows.proofs.holds.Tie as tie
 
-shl-result : tie.Need-shl-result
-shl-result c = omega (arith, mask-is (c .before .args .k))
-
 returns : tie.Need-returns
-returns c = let a = c .before .args in holds-row (a .w .now) (a .base) (a .i) (a .k) (omega arith)
+returns c =
+    let s = c .before .before .before .before in
+    rw (c .before .before .word-of .ensures, c .mask-of .ensures) (holds-row (s .args .w .now) (s .args .base) (s .args .i) (s .args .k) (omega arith))
 
 pub holds-spec : {M : Type 1} → statement M
 holds-spec =
@@ -18,8 +16,9 @@ holds-spec =
     (tie.spec
     (λ c. search needs)
     (λ c. search needs)
+    (λ c κs. search needs)
+    (λ c. omega arith)
+    (λ c. omega arith)
     (λ c. search needs)
-    (λ c. search needs)
-    (λ c. search needs)
-    shl-result
+    (λ c κs. search needs)
     returns)
