@@ -13,6 +13,10 @@
  * Files. An automaton is handed in as the bytes of its file, `docs/FORMAT.md` in the repository; the longest valid file has
  * RA_LONGEST_FILE bytes, and an output of that size has room for every result.
  *
+ * Letters. A letter is listed as one byte; a capital and its small letter (0x41 to 0x5A and 0x61 to 0x7A) stand for one letter: in a word,
+ * in the letters of a file, which may list it in one of its cases only, and where two files are to have the same letters. Joined files and
+ * shown words have the bytes that the first file lists.
+ *
  * Working words. Calls that take `work` need RA_WORKING_WORDS words (uint64_t) or more. They may hold anything before the call
  * and hold anything afterwards; nothing has to be cleared between calls.
  *
@@ -56,7 +60,7 @@ enum ra_refusal {
     RA_VERSION = 3,
     /* a count is out of its range: letters 0 to 64, states 1 to 256, registers 1 to 8, symbols 1 to 16, arcs 0 to 2048 */
     RA_HEADER_COUNT = 4,
-    /* the letters do not ascend strictly */
+    /* the letters do not ascend strictly, or a letter stands there as a capital and as a small letter */
     RA_LETTERS_NOT_ASCENDING = 5,
     /* a final flag is neither 00 nor 01 */
     RA_FINAL_FLAG = 6,
@@ -71,7 +75,7 @@ enum ra_refusal {
     /* bytes follow the last arc */
     RA_BYTES_AFTER_THE_LAST_ARC = 9,
     /* of two files, and of what they are joined to */
-    /* the two files have different letters */
+    /* the two files list different letters, or the same at other places; a capital and its small letter are one letter */
     RA_LETTER_LISTS_DIFFER = 10,
     /* the result would be beyond a limit: 256 states, 8 registers, 2048 arcs, 8 operations on an arc */
     RA_JOINED_BEYOND_A_LIMIT = 11,
@@ -137,11 +141,12 @@ struct ra_word_count {
 
 /* Is the file valid? Answers the counts in its header, or its first fault, which is always that of the one file, and its place: where
  * the mark, the version, the count, the letter, the flag, the byte of an arc or the operation stands that is wrong; where the part
- * begins that the file ends inside; where the bytes behind the last arc begin. */
+ * begins that the file ends inside; where the bytes behind the last arc begin. The wrong letter is the first that is not above the
+ * one before it; where all ascend, the first whose other case stands behind it, which is the capital. */
 struct ra_reading ra_read(const uint8_t *file, size_t file_length);
 
-/* Does the automaton of the file accept the word? A word with a byte that is no letter isn't accepted, and leaves no
- * configuration live. Refused: 1 to 9, 21, 24. */
+/* Does the automaton of the file accept the word? Its bytes are taken without regard to capitals. A word with a byte that is no
+ * letter isn't accepted, and leaves no configuration live. Refused: 1 to 9, 21, 24. */
 struct ra_membership ra_accepts(const uint8_t *file, size_t file_length,
                                 const uint8_t *word, size_t word_length,
                                 uint64_t *work, size_t work_words);
@@ -152,7 +157,8 @@ struct ra_written ra_unfold(const uint8_t *file, size_t file_length,
                             uint64_t *work, size_t work_words,
                             uint8_t *out, size_t out_length);
 
-/* Writes an automaton that accepts the words of either. Refused: 1 to 11, 25. */
+/* Writes an automaton that accepts the words of either. Its letters are the bytes of the first, as in every join.
+ * Refused: 1 to 11, 25. */
 struct ra_written ra_union(const uint8_t *first, size_t first_length,
                            const uint8_t *second, size_t second_length,
                            uint8_t *out, size_t out_length);
@@ -173,7 +179,8 @@ struct ra_written ra_close(const uint8_t *file, size_t file_length,
 
 /* Do the two accept the same words, of every length? Where they don't, the first word that exactly one accepts is written to the
  * front of `word`, which needs RA_WORD_BYTES bytes or more; where they do, `word` is left as it was lent. The first is that of the
- * shortest which is first in letter order: where two words first differ, the letter that is listed first decides.
+ * shortest which is first in letter order: where two words first differ, the letter that is listed first decides. It is written in
+ * the first file's bytes, whichever of the two accepts it.
  * Refused: 1 to 10, 21 to 24. */
 struct ra_comparison ra_compare(const uint8_t *first, size_t first_length,
                                 const uint8_t *second, size_t second_length,

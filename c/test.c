@@ -49,6 +49,12 @@ static const uint8_t S[] = {
     0, 1, 1, 1, 0x00, 0,
 };
 
+/* The file with the letters C, E and M in place of c, e and m. */
+static void in_capitals(const uint8_t *file, size_t size, uint8_t *copy) {
+    memcpy(copy, file, size);
+    memcpy(copy + 12, "CEM", 3);
+}
+
 /* ---- the files that the calls are to write */
 
 static const uint8_t T_UNFOLDED[] = {
@@ -183,6 +189,8 @@ static void test_read(void) {
         {"T of version 2", 3, 2, RA_VERSION, 3},
         {"T with 9 registers", 8, 9, RA_HEADER_COUNT, 8},
         {"T with the letters c c m", 13, 'c', RA_LETTERS_NOT_ASCENDING, 13},
+        {"T with the letters c C m", 13, 'C', RA_LETTERS_NOT_ASCENDING, 13},
+        {"T with the letters E e m", 12, 'E', RA_LETTERS_NOT_ASCENDING, 12},
         {"T with the final flag 02", 17, 2, RA_FINAL_FLAG, 17},
         {"T with an arc to state 3", 20, 3, RA_ARC_FIELD, 20},
         {"T with a write to register 0", 22, 0x10, RA_OPERATION, 22},
@@ -216,6 +224,9 @@ static void test_accepts(void) {
     expect_word("T", T, sizeof T, "c", 0, 1);
     expect_word("T", T, sizeof T, "", 0, 1);
     expect_word("T", T, sizeof T, "cxc", 0, 0);
+    expect_word("T", T, sizeof T, "CMMC", 1, 1);
+    expect_word("T", T, sizeof T, "eMe", 1, 1);
+    expect_word("T", T, sizeof T, "Ce", 0, 0);
     expect_word("V", V, sizeof V, "ee", 0, 0);
     expect_word("K", K, sizeof K, "c", 1, 1);
     expect_word("S", S, sizeof S, "aab", 1, 1);
@@ -345,6 +356,34 @@ static void test_compare(void) {
     expect_no_comparison(ra_compare(T, sizeof T, V, sizeof V, work, RA_WORKING_WORDS, out, RA_WORD_BYTES - 1), RA_TOO_LITTLE_MEMORY_LENT, 0);
 }
 
+/* T and V beside themselves in capitals: the same letters, and what is joined or shown has the bytes of the first. */
+static void test_capitals(void) {
+    uint8_t t[sizeof T], v[sizeof V], joined[200];
+    in_capitals(T, sizeof T, t);
+    in_capitals(V, sizeof V, v);
+    expect_counts("T in capitals", t, sizeof t, (uint64_t[]){3, 3, 2, 3, 5});
+    expect_word("T in capitals", t, sizeof t, "cmmc", 1, 1);
+
+    struct ra_written r = ra_union(T, sizeof T, V, sizeof V, joined, sizeof joined);
+    printf("ra_union of T and V in capitals\n");
+    lend();
+    expect_file(ra_union(T, sizeof T, v, sizeof v, out, sizeof out), joined, r.length);
+    memcpy(joined + 12, "CEM", 3);
+    printf("ra_union of T in capitals and V\n");
+    lend();
+    expect_file(ra_union(t, sizeof t, V, sizeof V, out, sizeof out), joined, r.length);
+
+    printf("ra_compare of T and T in capitals\n");
+    lend();
+    expect_comparison(ra_compare(T, sizeof T, t, sizeof t, work, RA_WORKING_WORDS, out, RA_WORD_BYTES), 0, 6, "");
+    printf("ra_compare of T and V in capitals\n");
+    lend();
+    expect_comparison(ra_compare(T, sizeof T, v, sizeof v, work, RA_WORKING_WORDS, out, RA_WORD_BYTES), 1, 6, "ee");
+    printf("ra_compare of V in capitals and T\n");
+    lend();
+    expect_comparison(ra_compare(v, sizeof v, T, sizeof T, work, RA_WORKING_WORDS, out, RA_WORD_BYTES), 2, 6, "EE");
+}
+
 static void expect_words(const char *name, const uint8_t *file, size_t size, uint64_t length, uint64_t accepted, uint64_t rejected) {
     printf("ra_count_words of %s, length %llu\n", name, (unsigned long long)length);
     lend();
@@ -393,6 +432,7 @@ int main(void) {
     test_joined("ra_intersect", ra_intersect, 1, 0);
     test_close();
     test_compare();
+    test_capitals();
     test_count_words();
     printf("%d checks, %d differences\n", checks, differences);
     return differences > 0;

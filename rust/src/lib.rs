@@ -5,6 +5,10 @@
 //! touches only what it was lent, and answers what the engine's definitions say; a refused call leaves the output lent
 //! to it as it was. What is not proved is this thin layer: that it hands over pointers and lengths as they are.
 //!
+//! A letter is listed as one byte; a capital and its small letter, bytes 41 to 5A and 61 to 7A, stand for one letter: in a
+//! word, in the letters of one file, which may list it in one case only, and where two files are to have the same letters. Joined files and
+//! shown words have the first file's bytes.
+//!
 //! ```
 //! // 0 to 1 on 'c'; 1 is final
 //! let file = b"MLB\x01\x00\x01\x02\x00\x01\x01\x01\x00c\x00\x01\x00\x00\x01\x01\x00\x00";
@@ -12,6 +16,8 @@
 //! let answer = registered_automata::accepts(file, b"c", &mut work).unwrap();
 //! assert!(answer.accepted);
 //! assert_eq!(answer.live, 1);
+//! let in_capitals = registered_automata::accepts(file, b"C", &mut work).unwrap();
+//! assert_eq!(in_capitals, answer);
 //! ```
 
 mod engine;
@@ -57,8 +63,8 @@ pub enum Comparison {
         pairs: u64,
     },
     /// The word that is shown has `length` bytes, at the front of the buffer lent, and is the first that exactly one of the
-    /// two accepts: the one named. Words come in order by their length, and then by the places of their letters in the
-    /// letter list.
+    /// two accepts: the one named. It is written in the bytes that the first file lists, whichever accepts it. Words come in
+    /// order by their length, and then by the places of their letters in the letter list.
     Different {
         pairs: u64,
         accepted_by: Automaton,
@@ -91,7 +97,8 @@ pub fn read(file: &[u8]) -> Result<Counts, Fault> {
     })
 }
 
-/// Does the automaton of the file accept the word? A word with a byte that is no letter is rejected.
+/// Does the automaton of the file accept the word? Its bytes are taken without regard to capitals. A word with a byte that is
+/// no letter is rejected.
 ///
 /// Refused, in this order: 24 with fewer than [`WORKING_WORDS`]; 1 to 9; 21.
 pub fn accepts(file: &[u8], word: &[u8], work: &mut [u64]) -> Result<Membership, Refusal> {
@@ -133,7 +140,8 @@ pub fn unfold(file: &[u8], work: &mut [u64], out: &mut [u8]) -> Result<usize, Re
     })
 }
 
-/// Writes an automaton that accepts the words of either, and answers the length of its file.
+/// Writes an automaton that accepts the words of either, and answers the length of its file. Its letters are the first file's
+/// bytes, as in every join.
 ///
 /// Refused, in this order: 1 to 9 of the first, then of the second; 10; 11; 25.
 pub fn union(first: &[u8], second: &[u8], out: &mut [u8]) -> Result<usize, Refusal> {
@@ -189,7 +197,7 @@ pub fn close(file: &[u8], out: &mut [u8]) -> Result<usize, Refusal> {
 }
 
 /// Do the two accept the same words, of every length? Where they don't, the first word that exactly one accepts is
-/// written to the front of `word`: of the shortest ones, the first in letter order.
+/// written to the front of `word`, in the first file's bytes: of the shortest ones, the first in letter order.
 ///
 /// Refused, in this order: 24 with fewer than [`WORKING_WORDS`] or a `word` of fewer than [`WORD_BYTES`]; 1 to 9 of the
 /// first, then of the second; 10; 21 and 22 of the first, then of the second; 23.

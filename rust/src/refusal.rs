@@ -26,11 +26,13 @@ pub enum Reason {
     Mark = 2,
     Version = 3,
     HeaderCount = 4,
+    /// Or a letter is listed as a capital and as a small letter.
     LettersNotAscending = 5,
     FinalFlag = 6,
     ArcField = 7,
     Operation = 8,
     BytesAfterTheLastArc = 9,
+    /// A capital and its small letter are one letter.
     LetterListsDiffer = 10,
     JoinedBeyondALimit = 11,
     TooManyConfigurations = 21,
@@ -81,12 +83,12 @@ impl Reason {
             Reason::Mark => "the file does not begin with the mark MLB",
             Reason::Version => "the version is not 1",
             Reason::HeaderCount => "a count is out of its range: letters 0 to 64, states 1 to 256, registers 1 to 8, symbols 1 to 16, arcs 0 to 2048",
-            Reason::LettersNotAscending => "the letters do not ascend strictly",
+            Reason::LettersNotAscending => "the letters do not ascend strictly, or a letter stands there as a capital and as a small letter",
             Reason::FinalFlag => "a final flag is neither 00 nor 01",
             Reason::ArcField => "an arc's state, letter or number of operations is out of its range: states and letters below their counts, or letter FF; operations 1 to 8",
             Reason::Operation => "an operation is not one: kind 0 or 1, register and symbol below their counts, register 0 only with the read of symbol 0",
             Reason::BytesAfterTheLastArc => "bytes follow the last arc",
-            Reason::LetterListsDiffer => "the two files have different letters",
+            Reason::LetterListsDiffer => "the two files list different letters, or the same at other places",
             Reason::JoinedBeyondALimit => "the result would be beyond a limit: 256 states, 8 registers, 2048 arcs, 8 operations on an arc",
             Reason::TooManyConfigurations => "more than 256 configurations can be reached",
             Reason::TooManyPlainArcs => "more than 2048 plain arcs: passing arcs, counted at each configuration",
@@ -148,7 +150,8 @@ impl std::error::Error for Refusal {}
 
 /// The first fault of a file, and its place in bytes from the file's start: where the mark, the version, the count, the
 /// letter, the flag, the byte of an arc or the operation stands that is wrong; where the part begins that the file ends
-/// inside; where the bytes behind the last arc begin. It is at most the file's length.
+/// inside; where the bytes behind the last arc begin. It is at most the file's length. The wrong letter is the first that is
+/// not above the one before it; where all ascend, the first whose other case stands behind it, which is the capital.
 #[derive(Clone, Copy, Debug, PartialEq, Eq)]
 pub struct Fault {
     pub reason: Reason,

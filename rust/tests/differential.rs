@@ -202,6 +202,36 @@ fn try_count_words(seed: u64, r: &mut Random) {
     }
 }
 
+/// The random files have what capitals and small letters can bring: a list that ascends and has a letter in both cases, two lists
+/// that agree in other bytes, and two with the same letters at other places.
+#[test]
+fn capitals_and_small_letters_are_met() {
+    let small = |letters: &[u8]| letters.to_ascii_lowercase();
+    let sorted = |mut letters: Vec<u8>| {
+        letters.sort();
+        letters
+    };
+    let (mut in_both_cases, mut agree, mut elsewhere) = (0, 0, 0);
+    for seed in 1..=1_000 {
+        let (first, second) = random::couple(&mut Random::new(seed));
+        match (plain::read(&first), plain::read(&second)) {
+            (Ok(x), Ok(y)) if x.letters != y.letters => {
+                let (a, b) = (small(&x.letters), small(&y.letters));
+                agree += (a == b) as u32;
+                elsewhere += (a != b && sorted(a) == sorted(b)) as u32;
+            }
+            (Err(fault), _) if fault.number == 5 => {
+                let letters = &first[12..12 + first[5] as usize];
+                in_both_cases += letters.windows(2).all(|w| w[0] < w[1]) as u32;
+            }
+            _ => {}
+        }
+    }
+    assert!(in_both_cases > 5, "{in_both_cases}");
+    assert!(agree > 50, "{agree}");
+    assert!(elsewhere > 5, "{elsewhere}");
+}
+
 fn number_from(name: &str, otherwise: u64) -> u64 {
     std::env::var(name)
         .ok()

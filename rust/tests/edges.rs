@@ -1,4 +1,5 @@
-//! Every limit of the requirements: a file, a couple or a join just at it, and one just beyond it.
+//! Every limit of the requirements: a file, a couple or a join just at it, and one just beyond it. And which bytes stand for one
+//! letter: every byte beside every other.
 
 mod common;
 
@@ -93,6 +94,224 @@ fn the_longest_file() {
     let file = write(&x);
     assert_eq!(file.len(), engine::LONGEST_FILE);
     assert_eq!(number(engine::read(&file)), 0);
+}
+
+// ---- letters: bytes 41 to 5A and 61 to 7A that differ only in case stand for one
+
+/// Do the two bytes stand for one letter?
+fn one_letter(x: u8, y: u8) -> bool {
+    x == y || (x.is_ascii_alphabetic() && x ^ y == 0x20)
+}
+
+/// An automaton over two letters that accepts one word, of the letters with these numbers.
+fn one_word(first: usize, second: usize) -> Automaton {
+    let spelled = |from: usize, letter: usize| Arc {
+        letter: Some(letter),
+        ..arc(from, from + 1, &[PASS])
+    };
+    let mut x = automaton(3, 1, vec![spelled(0, first), spelled(1, second)]);
+    x.letters = b"ab".to_vec();
+    x
+}
+
+/// The file of the automaton with other letters.
+fn over(letters: &[u8], x: &Automaton) -> Vec<u8> {
+    write(&Automaton {
+        letters: letters.to_vec(),
+        ..x.clone()
+    })
+}
+
+/// The file of an automaton over these letters that accepts the first of them.
+fn letter_file(letters: &[u8]) -> Vec<u8> {
+    over(letters, &automaton(2, 1, vec![arc(0, 1, &[PASS])]))
+}
+
+#[test]
+fn a_word_of_every_byte_over_a_list_of_every_byte() {
+    let mut work = engine::working_words();
+    let mut in_another_case = 0;
+    for listed in 0..=255 {
+        let file = letter_file(&[listed]);
+        for byte in 0..=255 {
+            let accepted = one_letter(listed, byte);
+            in_another_case += (accepted && listed != byte) as u32;
+            let expected = engine::Membership {
+                accepted,
+                live: accepted as u64,
+            };
+            let answer = engine::accepts(&file, &[byte], &mut work);
+            assert_eq!(answer, Ok(expected), "letter {listed:02X}, byte {byte:02X}");
+        }
+    }
+    assert_eq!(in_another_case, 52);
+}
+
+#[test]
+fn a_word_in_either_case() {
+    let mut work = engine::working_words();
+    for listed in [b"ab", b"AB", b"Ab"] {
+        let file = over(listed, &one_word(0, 1));
+        for word in [b"ab", b"AB", b"Ab", b"aB"] {
+            assert!(engine::accepts(&file, word, &mut work).unwrap().accepted);
+        }
+        for word in [b"ba", b"BA", b"aA", b"a@", b"`b"] {
+            assert!(!engine::accepts(&file, word, &mut work).unwrap().accepted);
+        }
+    }
+}
+
+/// How many letters a file over these has, or the number and the place of its fault.
+fn letters_read(letters: &[u8]) -> Result<usize, (u8, usize)> {
+    engine::read(&letter_file(letters))
+        .map(|counts| counts.letters)
+        .map_err(|fault| (fault.reason.number(), fault.place))
+}
+
+#[test]
+fn a_list_of_every_two_bytes() {
+    for x in 0..=255u8 {
+        for y in 0..=255u8 {
+            let expected = if y <= x {
+                Err((5, 13))
+            } else if one_letter(x, y) {
+                Err((5, 12))
+            } else {
+                Ok(2)
+            };
+            assert_eq!(letters_read(&[x, y]), expected, "letters {x:02X} {y:02X}");
+        }
+    }
+    for two in [b"@`", b"[{", b"\xC1\xE1", b"\xDA\xFA"] {
+        assert_eq!(letters_read(two), Ok(2));
+    }
+}
+
+/// Where letters do not ascend, that is told; else the first letter whose other case stands behind it.
+#[test]
+fn the_place_of_a_letter_in_both_cases() {
+    let cases: [(&[u8], Result<usize, (u8, usize)>); 12] = [
+        (b"@AZ[`bcy{", Ok(9)),
+        (b"@AZ[`ab{", Err((5, 13))),
+        (b"ABab", Err((5, 12))),
+        (b"ABbc", Err((5, 13))),
+        (b"ABCc", Err((5, 14))),
+        (b"+AZaz", Err((5, 13))),
+        (b"+AZbz", Err((5, 14))),
+        (b"Zz", Err((5, 12))),
+        (b"aA", Err((5, 13))),
+        (b"Aaa", Err((5, 14))),
+        (b"ABabdc", Err((5, 17))),
+        (b"AaB", Err((5, 14))),
+    ];
+    for (letters, expected) in cases {
+        let name = String::from_utf8_lossy(letters);
+        assert_eq!(letters_read(letters), expected, "{name}");
+    }
+    let most: Vec<u8> = (0x3B..=0x7A).collect();
+    assert_eq!(letters_read(&most), Err((5, 18)));
+    assert_eq!(letters_read(&most[..38]), Ok(38));
+    // The letters are looked at once they are all there, and before the flags.
+    let fault = |file: &[u8]| engine::read(file).map_err(|f| (f.reason.number(), f.place));
+    assert_eq!(fault(&letter_file(b"Aa")[..13]), Err((1, 12)));
+    assert_eq!(fault(&letter_file(b"Aa")[..14]), Err((5, 12)));
+}
+
+const JOINS: [(Join, PlainJoin); 3] = [
+    (engine::union, plain::union),
+    (engine::concatenate, plain::concatenate),
+    (engine::intersect, plain::intersect),
+];
+
+#[test]
+fn a_couple_of_every_two_bytes() {
+    let files: Vec<Vec<u8>> = (0..=255).map(|byte| letter_file(&[byte])).collect();
+    let mut work = engine::working_words();
+    for x in 0..=255u8 {
+        for y in 0..=255u8 {
+            let (first, second) = (&files[x as usize], &files[y as usize]);
+            let mut word = [0xA5; 512];
+            let answer = engine::compare(first, second, &mut work, &mut word);
+            let expected = if one_letter(x, y) {
+                Ok(engine::Comparison::Same { pairs: 3 })
+            } else {
+                Err(refusal(engine::Reason::LetterListsDiffer, None))
+            };
+            assert_eq!(answer, expected, "letters {x:02X} and {y:02X}");
+            for (join, _) in JOINS {
+                let mut out = [0; 100];
+                let answer = join(first, second, &mut out).map(|_| out[12]);
+                let expected = expected.map(|_| x);
+                assert_eq!(answer, expected, "letters {x:02X} and {y:02X}");
+            }
+        }
+    }
+}
+
+#[test]
+fn letters_agree_place_by_place() {
+    let cases: [(&[u8], &[u8], u8); 12] = [
+        (b"", b"", 0),
+        (b"ab", b"AB", 0),
+        (b"ab", b"Ab", 0),
+        (b"Ab", b"AB", 0),
+        (b"@ab{", b"@AB{", 0),
+        (b"AB[", b"A[b", 10),
+        (b"AB[", b"[ab", 10),
+        (b"ab", b"Ba", 10),
+        (b"ab", b"AC", 10),
+        (b"ab", b"A", 10),
+        (b"a", b"AB", 10),
+        (b"", b"A", 10),
+    ];
+    let mut x = automaton(1, 1, Vec::new());
+    x.finals = vec![true];
+    for (a, b, expected) in cases {
+        let (first, second) = (over(a, &x), over(b, &x));
+        let mut word = [0; 512];
+        let mut out = [0; 100];
+        let answer = engine::compare(&first, &second, &mut engine::working_words(), &mut word);
+        assert_eq!(number(answer), expected);
+        for (join, _) in JOINS {
+            assert_eq!(number(join(&first, &second, &mut out)), expected);
+        }
+    }
+}
+
+#[test]
+fn a_joined_file_has_the_first_files_bytes() {
+    let (x, y) = (one_word(0, 1), one_word(1, 0));
+    for (join, plainly) in JOINS {
+        for (a, b) in [(b"ab", b"AB"), (b"AB", b"ab"), (b"Ab", b"ab")] {
+            let joined = plainly(&over(a, &x), &over(a, &y), 60_000).unwrap();
+            assert_eq!(joined[12..14], *a);
+            writes_just_into(&joined, |out| join(&over(a, &x), &over(b, &y), out));
+        }
+    }
+}
+
+/// Of the words ab and ba the first is shown, whichever automaton accepts it.
+#[test]
+fn the_shown_word_has_the_first_files_bytes() {
+    let (x, y) = (one_word(0, 1), one_word(1, 0));
+    for (a, b) in [(b"ab", b"AB"), (b"AB", b"ab"), (b"Ab", b"ab")] {
+        for (first, second, accepted_by) in [
+            (&x, &y, engine::Automaton::First),
+            (&y, &x, engine::Automaton::Second),
+        ] {
+            let mut word = [0xA5; 512];
+            let (first, second) = (over(a, first), over(b, second));
+            let answer = engine::compare(&first, &second, &mut engine::working_words(), &mut word);
+            let expected = engine::Comparison::Different {
+                pairs: 6,
+                accepted_by,
+                length: 2,
+            };
+            assert_eq!(answer, Ok(expected));
+            assert_eq!(word[..2], *a);
+            assert_eq!(word[2..], [0xA5; 510]);
+        }
+    }
 }
 
 // ---- exploring

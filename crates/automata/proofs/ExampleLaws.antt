@@ -3,7 +3,7 @@
 use mathlib.Core.Path.{_≡_, ap, subst}
 use mathlib.Core.Logic.{⊎-elim}
 use Prim.Native.Nat.{_<_, _≤_, ℕ}
-use lib.Dec.{T, eqb, eqb-refl, eqb→eq, leb, leb→le, ltb, ltb→lt}
+use lib.Dec.{T, eqb, eqb→eq, leb, leb→le, ltb, ltb→lt}
 use lib.ListN.{length}
 use mathlib.Core.Bool.{Bool, _&&_, false, not, true}
 use mathlib.Core.List.{List, List·Memᴰ, List·Memᴰ·cases-cons, List·Memᴰ·not-nil, [], _∷_}
@@ -12,32 +12,21 @@ use Rattle.automata.specs.Automaton.{Arc, Automaton, Reachable, letters}
 use Rattle.automata.specs.Counting.{Apart, Exactly}
 use Rattle.automata.specs.Examples.{Holds, Row, accepts, compare-to, counts-to, reaches, rejects, rows, unfolds-to}
 use Rattle.automata.specs.Exploration.{has}
+use Rattle.automata.specs.Letters.{key, keys, unlike}
 use Rattle.automata.specs.Lengths.{AcceptedOf, RejectedOf, acceptedMany, rejectedMany}
 use Rattle.automata.specs.Lists.{any, sameBy}
 use Rattle.automata.specs.Pairs.{Right, Verdict, different, pairs, same, verdict}
 use Rattle.automata.specs.Unfolding.{acceptedBytes, configurations, plainArcs}
-use Rattle.automata.proofs.ExplorationLaws.{has-iff}
+use Rattle.automata.proofs.LetterLaws.{unlike-iff}
 use Rattle.automata.proofs.LengthLaws.{accepted-counts, rejected-counts}
 use Rattle.automata.proofs.ListLaws.{and-iff, any-iff, eqb-iff, not-iff, sameBy-iff}
 use Rattle.automata.proofs.MembershipLaws.{acceptedBytes-iff}
 use Rattle.automata.proofs.ReachLaws.{configurations-count}
 use Rattle.automata.proofs.VerdictLaws.{Lettered, verdict-right}
 
--- is no byte listed twice?
-distinct : List ℕ → Bool
-distinct [] = true
-distinct (x ∷ l) = not (has eqb x l) && distinct l
-
-distinct-apart : (l : List ℕ) → T (distinct l) → Apart l
-unfolding distinct
-distinct-apart [] t = tt
-distinct-apart (x ∷ l) t =
-    let p = (and-iff (not (has eqb x l)) (distinct l)) .0 t in
-    (λ k. (not-iff (has eqb x l)) .0 (p .0) ((has-iff eqb x l) .1 (x, k, eqb-refl x)), distinct-apart l (p .1))
-
 -- the walk ends within the limit, and the test of the row passes
 within : ℕ → Automaton → Bool → Bool
-within L x t = distinct (x .alphabet) && (leb (length (configurations x L)) L && t)
+within L x t = unlike (x .alphabet) && (leb (length (configurations x L)) L && t)
 
 -- has an arc a letter that the automaton lacks?
 beyond : ℕ → Option ℕ → Bool
@@ -91,12 +80,12 @@ checked L P (unfolds-to x n) = within L x (eqb (length (plainArcs x L)) n)
 checked L P (compare-to x y v) = within L x (within L y (compared L P x y v))
 checked L P (counts-to x n k m) = within L x (counted L x n k m)
 
-within-fits : (L : ℕ) (x : Automaton) (t : Bool) → T (within L x t) → Apart (x .alphabet) × (length (configurations x L) ≤ L) × T t
+within-fits : (L : ℕ) (x : Automaton) (t : Bool) → T (within L x t) → Apart (keys (x .alphabet)) × (length (configurations x L) ≤ L) × T t
 unfolding within
 within-fits L x t h =
-    let p = (and-iff (distinct (x .alphabet)) (leb (length (configurations x L)) L && t)) .0 h in
+    let p = (and-iff (unlike (x .alphabet)) (leb (length (configurations x L)) L && t)) .0 h in
     let q = (and-iff (leb (length (configurations x L)) L) t) .0 (p .1) in
-    (distinct-apart (x .alphabet) (p .0), leb→le _ L (q .0), q .1)
+    ((unlike-iff (x .alphabet)) .0 (p .0), leb→le _ L (q .0), q .1)
 
 compared-right : (L P : ℕ) (x y : Automaton) (v : Verdict) → length (configurations x L) ≤ L → length (configurations y L) ≤ L → T (compared L P x y v) → Right x y L v
 unfolding compared
@@ -140,5 +129,5 @@ all-hold L P (x ∷ l) t r k =
 
 -- THE TABLE
 pub rows-hold : (r : Row) → List·Memᴰ r rows → Holds 256 r
-unfolding rows all-checked checked within distinct has acceptedBytes configurations plainArcs compared strays beyond any sameVerdict sameBy pairs verdict counted acceptedMany rejectedMany
+unfolding rows all-checked checked within unlike key has acceptedBytes configurations plainArcs compared strays beyond any sameVerdict sameBy pairs verdict counted acceptedMany rejectedMany
 rows-hold = all-hold 256 512 rows tt

@@ -2,7 +2,7 @@
 -- the theorems, each in a statement that can be read by itself
 pub use Rattle.automata.proofs.Theorems.{closing, comparing, comparing-more, concatenating, counting-more, counting-unique, counting-words, intersecting, living-same, membership, pairing, reaching-more, unfolding-language, uniting}
 -- small laws of lists, options and tests that the library lacks
-pub use Rattle.automata.proofs.ListLaws.{and-iff, any-iff, at-back, at-front, at-map, at-mem, at-none, at-some, bool-ext, countFrom-iff, each-at, each-join, each-mem, each-split, eqb-iff, getElem?-append, getElem?-lt, getElem?-none, getElem?-some, iff-trans, map-append, map-map, mem-at, mem-each, none-some, not-iff, only-iff, or-iff, sameBy-iff, snoc-at-cases}
+pub use Rattle.automata.proofs.ListLaws.{and-iff, any-iff, at-back, at-front, at-map, at-mem, at-none, at-some, bool-ext, countFrom-iff, each-at, each-join, each-mem, each-split, eqb-iff, getElem?-append, getElem?-lt, getElem?-none, getElem?-some, iff-trans, map-append, map-map, mem-at, mem-each, none-some, not-iff, or-iff, sameBy-iff, snoc-at-cases}
 -- runs one after the other, and runs carried over to other moves
 pub use Rattle.automata.proofs.RunLaws.{joined}
 -- what is computed of operations and arcs is what document 003 relates
@@ -15,8 +15,10 @@ pub use Rattle.automata.proofs.NumberLaws.{add-new, add-old, addAll-pre
 pub use Rattle.automata.proofs.Mapped.{known-map, number-map}
 -- the order of words: a word that does not come before another is at least as long
 pub use Rattle.automata.proofs.WordOrderLaws.{not-before-long}
+-- which bytes stand for one letter: that no two of a list do, and of two that do the lower is a capital, the higher its small letter and their key
+pub use Rattle.automata.proofs.LetterLaws.{capital-and-small, higher-is-key, key-key, listed-iff, unlike-iff}
 -- words as bytes: what they stand for, their order, and how properties of words carry over to them
-pub use Rattle.automata.proofs.WordLaws.{spelled-both, spelled-one, spells-places}
+pub use Rattle.automata.proofs.WordLaws.{letter-at, letter-first, letter-lt, letter-nowhere, same-many, sameLetters-iff, spelled-both, spelled-one, spells-keys, spells-places}
 -- the live set of a word holds exactly the ends of the runs that spell it
 pub use Rattle.automata.proofs.LiveLaws.{byLetter-closed, byLetter-iff, closed-run, epsilonClosure-closed, epsilonClosure-iff, in-table, length-byLetter, length-rounds, length-table, run-below}
 -- the numbered configurations and plain arcs run as the automaton does (document 003, Theorem 1)

@@ -1,4 +1,5 @@
 pub mod ListLaws
+pub mod LetterLaws
 pub mod RunLaws
 pub mod PerformingLaws
 pub mod CountingLaws

@@ -10,6 +10,7 @@ use mathlib.Core.Option.{Option, Option·some-injective, none, some}
 use native.Mathlib.Omega.{arith}
 use Rattle.automata.specs.Automaton.{Accepts, Automaton, Configuration, Produces, Run, start}
 use Rattle.automata.specs.Counting.{Apart, Exactly}
+use Rattle.automata.specs.Letters.{keys}
 use Rattle.automata.specs.Live.{count, in?, live}
 use Rattle.automata.specs.Unfolding.{accepted, acceptedBytes, configurations, liveCount, liveSet, plainArcs, spelledOr}
 use Rattle.automata.specs.Words.{Language, LiveAfter, Spelled, spelling}
@@ -86,7 +87,7 @@ live-counts b L fits w = record {
     pos = getElem?-lt all 0 (first-configuration b L fits)
 
 -- ---- words of bytes
-module _ (x : Automaton) (apart : Apart (x .alphabet)) (L : ℕ) (fits : length (configurations x L) ≤ L) where
+module _ (x : Automaton) (apart : Apart (keys (x .alphabet))) (L : ℕ) (fits : length (configurations x L) ≤ L) where
   -- what is computed of the spelling decides what holds of the word that the bytes stand for
   spelled-iff : (f : List ℕ → Bool) (P : List ℕ → Type 0) → ((w : List ℕ) → T (f w) ↔ P w) → (s : List ℕ) → T (spelledOr false f (spelling (x .alphabet) s)) ↔ Spelled (x .alphabet) P s
   spelled-iff f P g s = go (spelling (x .alphabet) s) refl

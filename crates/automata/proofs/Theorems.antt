@@ -1,5 +1,5 @@
 -- Theorems: the theorems of this crate in one place, each in a statement that can be read by itself. Their proofs stand in the modules named.
--- Read specs/ first: Automaton, Words, then the rest in the order of specs/Lib.antt. L and P are limits, whatever their values.
+-- Read specs/ first: Automaton, Letters, Words, then the rest in the order of specs/Lib.antt. L and P are limits, whatever their values.
 use mathlib.Core.Path.{_≡_}
 use mathlib.Core.Logic.{_↔_}
 use Prim.Native.Nat.{_+_, _^_, _<_, _≤_, suc, ℕ}
@@ -15,6 +15,7 @@ use Rattle.automata.specs.Examples.{Holds, Row, rows}
 use Rattle.automata.specs.Exploration.{Distinct, Reach, known, number}
 use Rattle.automata.specs.Joins.{closure, concatenation, intersection, union}
 use Rattle.automata.specs.Languages.{Concatenation, Intersection, Star, Union}
+use Rattle.automata.specs.Letters.{OneLetter, key, keys}
 use Rattle.automata.specs.Lengths.{AcceptedOf, RejectedOf, acceptedMany, rejectedMany}
 use Rattle.automata.specs.Live.{count, in?}
 use Rattle.automata.specs.LiveSets.{SetAfter, liveSets}
@@ -23,12 +24,13 @@ use Rattle.automata.specs.Performing.{Move, perform, successors}
 use Rattle.automata.specs.Search.{Entry, Finds, Over, entries, firstOf, leads}
 use Rattle.automata.specs.Unfolding.{acceptedBytes, configurations, leaving, liveCount, liveSet, plainArcs, sameConfiguration, unfolded}
 use Rattle.automata.specs.WordOrder.{Before, Earliest}
-use Rattle.automata.specs.Words.{Language, LiveAfter}
+use Rattle.automata.specs.Words.{Language, LiveAfter, SameLetters}
 use Rattle.automata.proofs.CountingLaws.{counts-unique, not-more}
 use Rattle.automata.proofs.ExampleLaws.{rows-hold}
 use Rattle.automata.proofs.ExplorationLaws.{known-distinct, known-sound, walk-counts, walk-more}
 use Rattle.automata.proofs.LanguageLaws.{closure-language, concatenation-language, intersection-language, unfolded-language, union-language}
 use Rattle.automata.proofs.LengthLaws.{accepted-counts, both-many, letterless, rejected-counts}
+use Rattle.automata.proofs.LetterLaws.{key-iff}
 use Rattle.automata.proofs.LiveSetLaws.{sets-more}
 use Rattle.automata.proofs.MembershipLaws.{acceptedBytes-iff, live-counts, liveCount-counts}
 use Rattle.automata.proofs.PairLaws.{pairs-more}
@@ -39,6 +41,11 @@ use Rattle.automata.proofs.ReachLaws.{configurations-count, configurati
 use Rattle.automata.proofs.SearchLaws.{entry-true, first-found, word-met}
 use Rattle.automata.proofs.VerdictLaws.{verdict-right}
 use Rattle.automata.proofs.WordOrderLaws.{before-not, earliest-one, earliest-shortest}
+
+-- ---- letters (LetterLaws)
+-- The keys of two bytes are the same just if these stand for one letter: the same byte, or a capital and its small letter.
+pub one-letter : (x y : ℕ) → (key x ≡ key y) ↔ OneLetter x y
+one-letter = key-iff
 
 -- ---- one step (PerformingLaws)
 -- Performing a list of operations is document 003's relation.
@@ -119,7 +126,7 @@ module _ (x : Automaton) (L : ℕ) (fits : length (configurations x L) ≤ L) wh
   living-same = same-live x L fits
 
   -- A word of bytes is computed to be accepted just if it is in the language; the number live is that of its live set.
-  pub membership : Apart (x .alphabet) → (s : List ℕ) → (T (acceptedBytes x L s) ↔ Language x s) × Exactly (LiveAfter x s) (liveCount x L s)
+  pub membership : Apart (keys (x .alphabet)) → (s : List ℕ) → (T (acceptedBytes x L s) ↔ Language x s) × Exactly (LiveAfter x s) (liveCount x L s)
   membership apart s = (acceptedBytes-iff x apart L fits s, liveCount-counts x apart L fits s)
 
   -- The unfolded automaton has exactly the same words (UnfoldedLaws, LanguageLaws).
@@ -142,8 +149,8 @@ counting-letterless = letterless
 pub counting-more : (x : Automaton) (L : ℕ) (v : List ℕ) (P : ℕ) → (P < length (liveSets x L (liveSet x L v) P)) ↔ MoreThan (SetAfter x L v) P
 counting-more = sets-more
 
--- ---- the joins, of automata with one alphabet, for words of every length (LanguageLaws)
-module _ (a b : Automaton) (va : WellFormed a) (vb : WellFormed b) (shared : b .alphabet ≡ a .alphabet) where
+-- ---- the joins, of automata with the same letters, for words of every length (LanguageLaws)
+module _ (a b : Automaton) (va : WellFormed a) (vb : WellFormed b) (shared : SameLetters a b) where
   pub uniting : (s : List ℕ) → Language (union a b) s ↔ Union (Language a) (Language b) s
   uniting = union-language a b va vb shared
 

@@ -1,30 +1,45 @@
 -- WordLaws: words as bytes: what they stand for, and how properties of words carry over to them.
 use mathlib.Core.Path.{_∙_, _≡_, ap, ap₂, refl, subst, sym}
 use mathlib.Core.Logic.{_↔_, _⊎_, inl, inr, ⊎-elim}
-use Prim.Native.Nat.{ℕ}
-use lib.Dec.{eqb, ltb→lt, lt→ltb}
-use lib.ListN.{getElem?}
-use mathlib.Core.List.{List, [], _++_, _∷_}
-use mathlib.Core.Option.{Option·some-injective, bind-eq-some-iff, map-eq-some-iff, some}
+use Prim.Native.Nat.{_<_, suc, zero, ℕ}
+use borrow.Author.Tests.{eq-eqb, lt-ltb, ne-eqb}
+use lib.Dec.{T, eqb, ltb, ltb→lt, lt→ltb}
+use lib.ListN.{getD, getElem?, length, length-map}
+use mathlib.Core.Bool.{Bool, false, true}
+use mathlib.Core.List.{List, List·Memᴰ, [], _++_, _∷_}
+use mathlib.Core.Option.{Option·map, Option·some-injective, bind-eq-some-iff, map-eq-some-iff, none, some}
 use native.Mathlib.Omega.{arith}
 use Rattle.automata.specs.Counting.{Apart}
-use Rattle.automata.specs.Exploration.{first}
+use Rattle.automata.specs.Exploration.{first, number}
 use Rattle.automata.specs.Languages.{Concatenation, Star, more, nothing}
+use Rattle.automata.specs.Automaton.{Automaton, letters}
+use Rattle.automata.specs.Letters.{key, keys}
+use Rattle.automata.specs.Lists.{only}
 use Rattle.automata.specs.WordOrder.{BeforeIn}
-use Rattle.automata.specs.Words.{Spelled, Spells, letterWith, place, places, spelling}
-use Rattle.automata.proofs.ListLaws.{at-mem, eqb-iff, getElem?-lt, only-iff}
+use Rattle.automata.specs.Words.{Listed, SameLetters, Spelled, Spells, letterWith, place, places, sameLetters, spelling}
+use Rattle.automata.proofs.ListLaws.{at-map, at-mem, at-some, eqb-iff, getElem?-lt, mem-at, only-iff, sameBy-iff}
 use Rattle.automata.proofs.NumberLaws.{apart-distinct, number-at, number-found, one-number}
 use Rattle.automata.proofs.WordOrderLaws.{before-one}
 
 -- ---- the numbers that are computed are those that the bytes stand for
-module _ (alphabet : List ℕ) (apart : Apart alphabet) where
-  letterWith-iff : (byte k : ℕ) → (letterWith alphabet byte ≡ some k) ↔ (getElem? alphabet k ≡ some byte)
+module _ (alphabet : List ℕ) (apart : Apart (keys alphabet)) where
+  -- no letter stands in two places
+  one-place : (i k : ℕ) {x : ℕ} → getElem? (keys alphabet) i ≡ some x → getElem? (keys alphabet) k ≡ some x → i ≡ k
+  one-place i k = one-number eqb eqb-iff (keys alphabet) i k (apart-distinct eqb eqb-iff (keys alphabet) apart)
+
+  place-is : (byte k : ℕ) → getElem? (keys alphabet) k ≡ some (key byte) → place alphabet byte ≡ k
+  place-is byte k e = one-place (place alphabet byte) k (number-at eqb eqb-iff (at-mem (keys alphabet) k e)) e
+
+  letterWith-iff : (byte k : ℕ) → (letterWith alphabet byte ≡ some k) ↔ (getElem? (keys alphabet) k ≡ some (key byte))
   unfolding letterWith
   letterWith-iff byte k = simp only-iff (
-    λ p. rw (← (p .1)) (number-found eqb eqb-iff byte alphabet (ltb→lt _ _ (p .0))),
-    λ e. let n = number-at eqb eqb-iff (at-mem alphabet k e) in
-        (lt→ltb _ _ (getElem?-lt alphabet _ n), one-number eqb eqb-iff alphabet _ k (apart-distinct eqb eqb-iff alphabet apart) n e),
+    λ p. rw (← (p .1)) (number-found eqb eqb-iff (key byte) (keys alphabet) (omega (arith, ltb→lt (place alphabet byte) (length alphabet) (p .0), length-map alphabet key))),
+    λ e. let q = place-is byte k e in (lt→ltb (place alphabet byte) (length alphabet) (omega (arith, getElem?-lt (keys alphabet) k e, length-map alphabet key)), q),
   )
+
+  -- the byte at a place, and any byte that stands for the same letter, has that number
+  pub letter-at : (byte k : ℕ) → k < length alphabet → key (getD alphabet k 0) ≡ key byte → letterWith alphabet byte ≡ some k
+  letter-at byte k h e = (letterWith-iff byte k) .1 (at-map key alphabet k ∙ ap (Option·map key) (at-some alphabet k 0 h) ∙ ap some e)
 
   -- the computed spelling is the one spelling there is
   pub spelling-iff : (s w : List ℕ) → (spelling alphabet s ≡ some w) ↔ Spells alphabet s w
@@ -56,24 +71,30 @@ module _ (alphabet : List ℕ) (apart : Apart alphabet) where
   spells-places [] (k ∷ v) p = absurd p
   spells-places (byte ∷ s) [] p = absurd p
   spells-places (byte ∷ s) (k ∷ v) p =
-      ap₂ (λ (i : ℕ) (w : List ℕ). i ∷ w)
-      (one-number eqb eqb-iff alphabet (place alphabet byte) k (apart-distinct eqb eqb-iff alphabet apart) (number-at eqb eqb-iff (at-mem alphabet k (p .0))) (p .0))
-      (spells-places s v (p .1))
+      ap₂ (λ (i : ℕ) (w : List ℕ). i ∷ w) (place-is byte k (p .0)) (spells-places s v (p .1))
 
-  -- two words of letters of which none comes before the other are one
-  pub spelled-one : (s t v w : List ℕ) → Spells alphabet s v → Spells alphabet t w → ¬ BeforeIn alphabet s t → ¬ BeforeIn alphabet t s → s ≡ t
-  spelled-one s t v w p q h k =
+  -- a byte of the list stands where its letter does
+  listed-at : (k : ℕ) {byte : ℕ} → List·Memᴰ byte alphabet → getElem? (keys alphabet) k ≡ some (key byte) → getElem? alphabet k ≡ some byte
+  listed-at k m e =
+      let p = mem-at m in
+      let i : p .0 ≡ k = one-place (p .0) k (at-map key alphabet (p .0) ∙ ap (Option·map key) (p .1)) e in
+      rw (← i) (p .1)
+
+  -- two words in the bytes of the list of which none comes before the other are one
+  pub spelled-one : (s t v w : List ℕ) → Listed alphabet s → Listed alphabet t → Spells alphabet s v → Spells alphabet t w → ¬ BeforeIn alphabet s t → ¬ BeforeIn alphabet t s → s ≡ t
+  spelled-one s t v w a b p q h k =
       let e : v ≡ w = before-one v w (λ b. h (rw (spells-places s v p, spells-places t w q) b)) (λ b. k (rw (spells-places s v p, spells-places t w q) b)) in
-      same-bytes s t v p (rw e q)
+      same-bytes s t v a b p (rw e q)
     where
-      same-bytes : (s t v : List ℕ) → Spells alphabet s v → Spells alphabet t v → s ≡ t
-      same-bytes [] [] v p q = refl
-      same-bytes [] (y ∷ t) [] p q = absurd q
-      same-bytes [] (y ∷ t) (k ∷ v) p q = absurd p
-      same-bytes (x ∷ s) [] [] p q = absurd p
-      same-bytes (x ∷ s) [] (k ∷ v) p q = absurd q
-      same-bytes (x ∷ s) (y ∷ t) [] p q = absurd p
-      same-bytes (x ∷ s) (y ∷ t) (k ∷ v) p q = ap₂ (λ (i : ℕ) (w : List ℕ). i ∷ w) (Option·some-injective x y (sym (p .0) ∙ q .0)) (same-bytes s t v (p .1) (q .1))
+      same-bytes : (s t v : List ℕ) → Listed alphabet s → Listed alphabet t → Spells alphabet s v → Spells alphabet t v → s ≡ t
+      same-bytes [] [] v a b p q = refl
+      same-bytes [] (y ∷ t) [] a b p q = absurd q
+      same-bytes [] (y ∷ t) (k ∷ v) a b p q = absurd p
+      same-bytes (x ∷ s) [] [] a b p q = absurd p
+      same-bytes (x ∷ s) [] (k ∷ v) a b p q = absurd q
+      same-bytes (x ∷ s) (y ∷ t) [] a b p q = absurd p
+      same-bytes (x ∷ s) (y ∷ t) (k ∷ v) a b p q =
+          ap₂ (λ (i : ℕ) (w : List ℕ). i ∷ w) (Option·some-injective x y (sym (listed-at k (a .0) (p .0)) ∙ listed-at k (b .0) (q .0))) (same-bytes s t v (a .1) (b .1) (p .1) (q .1))
 
   -- both properties hold of one word
   pub spelled-both : (P Q : List ℕ → Type 0) (s : List ℕ) → Spelled alphabet (λ w. P w × Q w) s ↔ (Spelled alphabet P s × Spelled alphabet Q s)
@@ -85,6 +106,60 @@ module _ (alphabet : List ℕ) (apart : Apart alphabet) where
       holds = (t .0 .holds, subst Q (one-spelling s (t .1 .word) (t .0 .word) (t .1 .spells) (t .0 .spells)) (t .1 .holds));
     },
   )
+
+-- ---- a byte that stands for the letter at no place has no number
+pub letter-nowhere : (alphabet : List ℕ) (byte : ℕ) → ((k : ℕ) → k < length alphabet → ¬ (key (getD alphabet k 0) ≡ key byte)) → letterWith alphabet byte ≡ none
+unfolding letterWith
+letter-nowhere alphabet byte h = go (ltb n (length alphabet)) (ltb→lt n (length alphabet))
+  where
+    n : ℕ
+    n = place alphabet byte
+
+    go : (b : Bool) → (T b → n < length alphabet) → only b n ≡ none
+    go false f = refl
+    go true f =
+        let k = f tt in
+        let e = number-found eqb eqb-iff (key byte) (keys alphabet) (omega (arith, k, length-map alphabet key)) in
+        absurd (h n k (Option·some-injective _ _ (sym (at-map key alphabet n ∙ ap (Option·map key) (at-some alphabet n 0 k)) ∙ e)))
+
+-- the first place that has its letter is a byte's number
+place-first : (alphabet : List ℕ) (byte k : ℕ) → k < length alphabet → key (getD alphabet k 0) ≡ key byte → ((j : ℕ) → j < k → ¬ (key (getD alphabet j 0) ≡ key byte)) → place alphabet byte ≡ k
+unfolding number
+place-first [] byte k h e f = absurd (omega arith)
+place-first (x ∷ l) byte zero h e f = rw (eq-eqb (key byte) (key x) (sym e))
+place-first (x ∷ l) byte (suc k) h e f = rw (ne-eqb (key byte) (key x) (λ q. f 0 (omega arith) (sym q))) (ap suc (place-first l byte k (omega arith) e (λ j g. f (suc j) (omega arith))))
+
+pub letter-first : (alphabet : List ℕ) (byte k : ℕ) → k < length alphabet → key (getD alphabet k 0) ≡ key byte → ((j : ℕ) → j < k → ¬ (key (getD alphabet j 0) ≡ key byte)) → letterWith alphabet byte ≡ some k
+unfolding letterWith
+letter-first alphabet byte k h e f = rw (place-first alphabet byte k h e f, lt-ltb k (length alphabet) h)
+
+-- a letter's number is below how many there are
+pub letter-lt : (alphabet : List ℕ) (byte k : ℕ) → letterWith alphabet byte ≡ some k → k < length alphabet
+unfolding letterWith
+letter-lt alphabet byte k e =
+    let p = (only-iff (ltb (place alphabet byte) (length alphabet)) (place alphabet byte) k) .0 e in
+    omega (arith, ltb→lt (place alphabet byte) (length alphabet) (p .0), p .1)
+
+-- ---- lists of the same letters
+pub sameLetters-iff : (x y : Automaton) → T (sameLetters x y) ↔ SameLetters x y
+sameLetters-iff x y = sameBy-iff eqb eqb-iff (keys (x .alphabet)) (keys (y .alphabet))
+
+-- there are as many
+pub same-many : (x y : Automaton) → SameLetters x y → letters y ≡ letters x
+same-many x y e = sym (length-map (y .alphabet) key) ∙ ap length (sym e) ∙ length-map (x .alphabet) key
+
+-- they spell the same words
+pub spells-keys : (a b : List ℕ) → keys a ≡ keys b → (s w : List ℕ) → Spells a s w → Spells b s w
+spells-keys a b e [] [] p = tt
+spells-keys a b e [] (k ∷ w) p = absurd p
+spells-keys a b e (byte ∷ s) [] p = absurd p
+spells-keys a b e (byte ∷ s) (k ∷ w) p = (rw e at (p .0), spells-keys a b e s w (p .1))
+
+pub spelled-keys : (a b : List ℕ) → keys a ≡ keys b → (P : List ℕ → Type 0) (s : List ℕ) → Spelled a P s ↔ Spelled b P s
+spelled-keys a b e P s = (
+  λ t. record { word = t .word; spells = spells-keys a b e s (t .word) (t .spells); holds = t .holds },
+  λ t. record { word = t .word; spells = spells-keys b a (sym e) s (t .word) (t .spells); holds = t .holds },
+)
 
 module _ (alphabet : List ℕ) where
   -- ---- what holds of the same words

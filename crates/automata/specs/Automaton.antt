@@ -10,6 +10,7 @@ use mathlib.Core.Option.{Option, none, some}
 use mathlib.Core.Bool.{Bool, true}
 use lib.ListN.{length, getElem?, replicate}
 use Rattle.automata.specs.Counting.{Apart}
+use Rattle.automata.specs.Letters.{keys}
 
 -- an operation on a register: (R, i, γ) or (W, i, γ)
 pub data Op : Type 0 where
@@ -22,8 +23,8 @@ pub record Arc : Type 0 where
   pub target : ℕ
   pub ops : List Op
 
--- document 01's book. States are the numbers below the length of `finals`, and state 0 is initial; letter k is the byte at
--- place k of `alphabet`; register symbols are the numbers below `symbols`, and symbol 0 is document 003's #.
+-- document 01's book. States are the numbers below the length of `finals`, and state 0 is initial; letter k is the one that
+-- the byte at place k of `alphabet` stands for (Letters.antt); register symbols are the numbers below `symbols`, and symbol 0 is document 003's #.
 pub record Automaton : Type 0 where
   pub alphabet : List ℕ
   pub registers : ℕ
@@ -110,11 +111,11 @@ KeepsZero (reads (suc i) γ) = Unit {0}
 KeepsZero (writes zero γ) = ⊥
 KeepsZero (writes (suc i) γ) = Unit {0}
 
--- there are a state and a register, no byte is two letters, and arcs and operations stay within what there is
+-- there are a state and a register, no byte stands for two letters, and arcs and operations stay within what there is
 pub record WellFormed (x : Automaton) : Type 0 where
   pub some-state : 0 < states x
   pub some-register : 0 < x .registers
-  pub letters-apart : Apart (x .alphabet)
+  pub letters-apart : Apart (keys (x .alphabet))
   pub sources : (a : Arc) → List·Memᴰ a (x .arcs) → a .source < states x
   pub targets : (a : Arc) → List·Memᴰ a (x .arcs) → a .target < states x
   pub lettered : (a : Arc) → List·Memᴰ a (x .arcs) → (l : ℕ) → a .letter ≡ some l → l < letters x

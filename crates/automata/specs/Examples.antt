@@ -1,5 +1,5 @@
 -- Examples: document 01's automata T, V, K and S, and its table of checked words and automata ('Checked slips and books'); document 02's
--- examples of the word that is shown (change 1) and of the words of one length (change 2).
+-- examples of the word that is shown (change 1) and of the words of one length (change 2); and words in capitals (change 4).
 -- proofs/ExampleLaws.antt has the one theorem over the rows.
 use Prim.Native.Nat.{ℕ}
 use mathlib.Core.Path.{_≡_}
@@ -68,6 +68,10 @@ automatonK = record { alphabet = c ∷ []; registers = 2; symbols = 2; finals = 
 unfoldable pub automatonS : Automaton
 automatonS = record { alphabet = a ∷ b ∷ []; registers = 1; symbols = 1; finals = false ∷ true ∷ []; arcs = arc 0 0 0 readZero ∷ arc 0 1 1 readZero ∷ [] }
 
+-- one letter, with this byte, which is the one word
+abbrev oneLetter : ℕ → Automaton
+oneLetter byte = record { alphabet = byte ∷ []; registers = 1; symbols = 1; finals = false ∷ true ∷ []; arcs = arc 0 0 1 readZero ∷ [] }
+
 -- no letters, one state, which is final
 unfoldable pub wordless : Automaton
 wordless = record { alphabet = []; registers = 1; symbols = 1; finals = true ∷ []; arcs = [] }
@@ -90,8 +94,9 @@ Holds L (unfolds-to x n) = length (plainArcs x L) ≡ n
 Holds L (compare-to x y v) = Right x y L v
 Holds L (counts-to x n k m) = Exactly (AcceptedOf x n) k × Exactly (RejectedOf x n) m
 
--- document 01's checked words and automata; last, document 02's examples: the first difference of U and T is ce, and never ec; of the
--- words of 3 letters T accepts 2 and rejects 25; with no letters there is one word of length 0, and none of any other
+-- document 01's checked words and automata; then document 02's examples: the first difference of U and T is ce, and never ec; of the
+-- words of 3 letters T accepts 2 and rejects 25; with no letters there is one word of length 0, and none of any other; last, for change 4, CMmc is cmmc,
+-- and CE is ce; 41 and 61, 5A and 7A are one letter, but not 40 and 60, 5B and 7B, C1 and E1
 unfoldable pub rows : List Row
 unfolding automatonT automatonV automatonU automatonK automatonS wordless concatenation intersection closure unfolded
 rows = accepts automatonT (c ∷ c ∷ [])
@@ -113,4 +118,12 @@ rows = accepts automatonT (c ∷ c ∷ [])
     ∷ compare-to automatonU automatonT (different 8 1 (0 ∷ 1 ∷ []))
     ∷ counts-to automatonT 3 2 25
     ∷ counts-to wordless 0 1 0
-    ∷ counts-to wordless 1 0 0 ∷ []
+    ∷ counts-to wordless 1 0 0
+    ∷ accepts automatonT (0x43 ∷ 0x4D ∷ m ∷ c ∷ [])
+    ∷ rejects automatonT (0x43 ∷ 0x45 ∷ [])
+    ∷ accepts (oneLetter 0x41) (0x61 ∷ [])
+    ∷ accepts (oneLetter 0x7A) (0x5A ∷ [])
+    ∷ rejects (oneLetter 0x40) (0x60 ∷ [])
+    ∷ rejects (oneLetter 0x7B) (0x5B ∷ [])
+    ∷ rejects (oneLetter 0xC1) (0xE1 ∷ [])
+    ∷ []

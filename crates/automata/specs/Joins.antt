@@ -1,5 +1,6 @@
 -- Joins: union, concatenation, intersection and closure of automata (document 003, section 3.2), as document 01, 'Joining books', numbers
--- states, registers and arcs. Closure departs from document 003, which makes the old initial state final.
+-- states, registers and arcs. A join lists the first's letter bytes (document 02, change 4). Closure departs from document 003, which makes
+-- the old initial state final.
 use Prim.Native.Nat.{ℕ, zero, suc, _+_, _*_, _-_, max}
 use mathlib.Core.List.{List, [], _∷_, _++_, map, flatMap}
 use mathlib.Core.Option.{Option, none, some}

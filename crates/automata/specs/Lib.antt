@@ -1,5 +1,6 @@
 pub mod Lists
 pub mod Counting
+pub mod Letters
 pub mod Automaton
 pub mod Exploration
 pub mod Words

@@ -1,7 +1,7 @@
 -- Pairs: two automata compared by the pairs of their live sets, and what makes an answer right.
 -- Renders document 01, 'Comparing', and demand 3; and change 1 of document 02, by which word is shown. L is the limit on configurations,
 -- P the limit on pairs; document 01's are 256 and 512. Words are given by their letters' numbers; the two automata are to have the same
--- alphabet.
+-- letters (SameLetters in Words.antt).
 use mathlib.Core.Path.{_≡_}
 use mathlib.Core.Logic.{_↔_, _⊎_}
 use Prim.Native.Nat.{ℕ}

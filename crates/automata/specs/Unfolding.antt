@@ -82,7 +82,7 @@ unfoldable pub liveCount : Automaton → ℕ → List ℕ → ℕ
 unfolding liveSet count spelling
 liveCount x n s = spelledOr 0 (λ w. count (liveSet x n w)) (spelling (x .alphabet) s)
 
--- ---- the unfolded automaton: one register, one symbol, the same letters; each arc has one operation, the read of register 0
+-- ---- the unfolded automaton: one register, one symbol, the same letter bytes; each arc has one operation, the read of register 0
 -- the operations of an arc that needs none
 abbrev pub readZero : List Op
 readZero = reads 0 0 ∷ []

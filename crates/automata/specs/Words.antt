@@ -1,32 +1,45 @@
--- Words: a word is handed in as bytes, each standing for the letter with that byte (document 01, 'Runs and slips').
+-- Words: a word is handed in as bytes, each standing for the letter with its key (document 01, 'Runs and slips'; document 02, change 4).
 -- A byte that is no letter stands for nothing, so a word that has one is accepted by no run.
 use mathlib.Core.Path.{_≡_}
 use Prim.Native.Nat.{ℕ}
-use mathlib.Core.List.{List, [], _∷_, map}
+use mathlib.Core.Bool.{Bool}
+use mathlib.Core.List.{List, [], _∷_, List·Memᴰ, map}
 use mathlib.Core.Option.{Option, some, Option·map, bind}
 use lib.ListN.{length, getElem?}
 use lib.Dec.{eqb, ltb}
-use Rattle.automata.specs.Lists.{only}
+use Rattle.automata.specs.Lists.{Each, only, sameBy}
+use Rattle.automata.specs.Letters.{key, keys}
 use Rattle.automata.specs.Exploration.{number}
 use Rattle.automata.specs.Automaton.{Automaton, Configuration, start, Produces, Run, Accepts}
+
+-- two automata list the same letters, place by place; and the test of it
+abbrev pub SameLetters : Automaton → Automaton → Type 0
+SameLetters x y = keys (x .alphabet) ≡ keys (y .alphabet)
+
+abbrev pub sameLetters : Automaton → Automaton → Bool
+sameLetters x y = sameBy eqb (keys (x .alphabet)) (keys (y .alphabet))
 
 -- the bytes stand for the letters with these numbers
 abbrev pub Spells : List ℕ → List ℕ → List ℕ → Type 0
 Spells alphabet [] [] = Unit {0}
 Spells alphabet [] (k ∷ w) = ⊥
 Spells alphabet (byte ∷ s) [] = ⊥
-Spells alphabet (byte ∷ s) (k ∷ w) = (getElem? alphabet k ≡ some byte) × Spells alphabet s w
+Spells alphabet (byte ∷ s) (k ∷ w) = (getElem? (keys alphabet) k ≡ some (key byte)) × Spells alphabet s w
+
+-- a word that is written in the bytes of the letter list itself
+abbrev pub Listed : (alphabet word : List ℕ) → Type 0
+Listed alphabet word = Each (λ byte. List·Memᴰ byte alphabet) word
 
 -- ---- the numbers, computed
--- the place of the letter with this byte in the letter list, which is its number; the number of letters where there is none
+-- the place in the letter list of the letter that the byte stands for, which is its number; the number of letters where there is none
 abbrev pub place : (alphabet : List ℕ) → ℕ → ℕ
-place alphabet byte = number eqb byte alphabet
+place alphabet byte = number eqb (key byte) (keys alphabet)
 
 -- the places of a word's letters
 abbrev pub places : (alphabet word : List ℕ) → List ℕ
 places alphabet word = map (place alphabet) word
 
--- the number of the letter with this byte
+-- the number of the letter that the byte stands for
 unfoldable pub letterWith : List ℕ → ℕ → Option ℕ
 unfolding number
 letterWith alphabet byte = only (ltb (place alphabet byte) (length alphabet)) (place alphabet byte)

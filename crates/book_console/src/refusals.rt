@@ -15,7 +15,10 @@ fn say_fault(file: i32, number: u8) -> bool {
             file,
             b"a count is out of its range: letters 0 to 64, states 1 to 256, registers 1 to 8, symbols 1 to 16, arcs 0 to 2048",
         ),
-        5 => say(file, b"the letters do not ascend strictly"),
+        5 => say(
+            file,
+            b"the letters do not ascend strictly, or a letter stands there as a capital and as a small letter",
+        ),
         6 => say(file, b"a final flag is neither 00 nor 01"),
         7 => say(
             file,
@@ -32,7 +35,10 @@ fn say_fault(file: i32, number: u8) -> bool {
 // What a refusal of a call with valid files means. Cost: the text.
 fn say_limit(file: i32, number: u8) -> bool {
     match number {
-        10 => say(file, b"the two files have different letters"),
+        10 => say(
+            file,
+            b"the two files list different letters, or the same at other places",
+        ),
         11 => say(
             file,
             b"the result would be beyond a limit: 256 states, 8 registers, 2048 arcs, 8 operations on an arc",

@@ -1,6 +1,8 @@
 // Words and numbers to an open file, 1 being standard output and 2 standard error; words among the arguments.
+ghost use mathlib.Core.Path.{_≡_};
+ghost use mathlib.Core.Logic.{_↔_};
+ghost use lib.Dec.{T};
 ghost use Rattle.book_console.specs.Inputs.{Asked};
-use file_pair::same_bytes;
 
 // Writes the text, and answers whether that passed. That it failed is told on standard error, once: the file is closed then, and
 // that a closed file takes nothing is not told. Cost: the text.
@@ -23,6 +25,23 @@ pub fn say_argument(file: i32, argument: usize) {
     let mut text = io::buffer();
     let length = os::arg(argument, &mut text);
     say(file, &text[..length]);
+}
+
+// Whether two texts are the same bytes. Cost: the bytes up to the first that differs.
+fn same_bytes(left: &[u8], right: &[u8]) -> bool
+    ensures { λ r. ⌜ T r ↔ (now (left .entry) ≡ now (right .entry)) ⌝ }
+{
+    if left.len() != right.len() {
+        return false;
+    }
+    let mut i: usize = 0;
+    while i < left.len() {
+        if left[i] != right[i] {
+            return false;
+        }
+        i += 1;
+    }
+    true
 }
 
 // Whether an argument is this word. Cost: the bytes of both.

@@ -12,7 +12,7 @@ use Rattle.automata.specs.Live.{meets}
 use Rattle.automata.specs.Pairs.{Pair, answersPass, differ, different, firstAccepts, firstPassing, judged, onward, pairOf, pairs, samePair, secondAccepts, shown, takerOf, verdict}
 use Rattle.automata.specs.Search.{Entry, entries, firstOf}
 use Rattle.automata.specs.Unfolding.{configurations, finalSet, liveSet, plainArcs}
-use Rattle.automata.proofs.Laws.{First, at, firstOf-first, getElem?-lt, getElem?-some, nowhere, shown-many}
+use Rattle.automata.proofs.Laws.{First, at, firstOf-first, getElem?-lt, getElem?-some, nowhere, same-many, shown-many}
 use Rattle.word_layout.specs.declared.SetTable.{SetTable}
 use Rattle.live_table.specs.Entries.{Holds, Side, Tree, along, begin, sideOf}
 use Rattle.live_table.specs.declared.Grown.{Grown}
@@ -77,7 +77,7 @@ module _ {x y : Automaton} {L : ℕ} {w₀ : List ℕ} {one two : Standing} {byt
     size₁ = sym (c .first .many);
     size₂ = sym (c .second .many);
     tells₁ = subst (λ (a : ℕ). Tells a (plainArcs x L) w₀ (one .block)) (sym many-letters) (c .first .tells);
-    tells₂ = subst (λ (a : ℕ). Tells a (plainArcs y L) w₀ (two .block)) (ap length (c .shared) ∙ sym many-letters) (c .second .tells);
+    tells₂ = subst (λ (a : ℕ). Tells a (plainArcs y L) w₀ (two .block)) (same-many x y (c .shared) ∙ sym many-letters) (c .second .tells);
   }
 
   -- what searching leaves

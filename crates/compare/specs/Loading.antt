@@ -5,6 +5,7 @@ use Prim.Native.Nat.{_≤_, ℕ}
 use lib.ListN.{length}
 use Rattle.automata.specs.Automaton.{Automaton, letters}
 use Rattle.automata.specs.Unfolding.{configurations, finalSet, plainArcs}
+use Rattle.automata.specs.Words.{SameLetters}
 use Rattle.format.specs.Decoding.{automatonOf}
 use Rattle.format.specs.Refusals.{unlessRefused}
 use Rattle.word_sets.specs.Sets.{view}
@@ -34,5 +35,5 @@ pub record Loads (file : List ℕ) (M : ℕ) (w : List ℕ) (base : ℕ) (r : Lo
 pub record Comparable (x y : Automaton) (L : ℕ) (w : List ℕ) (one two : Standing) (letters : List ℕ) : Type 0 where
   pub first : Prepared x L w one
   pub second : Prepared y L w two
-  pub shared : y .alphabet ≡ x .alphabet
+  pub shared : SameLetters x y
   pub spelled : letters ≡ x .alphabet

@@ -11,8 +11,8 @@ use Rattle.automata.specs.Automaton.{Automaton, SameEnds, WellFormed}
 use Rattle.automata.specs.Pairs.{Right, Verdict, different, pairOf, pairs, same, verdict}
 use Rattle.automata.specs.Unfolding.{configurations, plainArcs}
 use Rattle.automata.specs.WordOrder.{BeforeIn, Earliest}
-use Rattle.automata.specs.Words.{Language, place, places}
-use Rattle.automata.proofs.Laws.{comparing, comparing-more, not-before-long, pairing, reaching-more, same-language}
+use Rattle.automata.specs.Words.{Language, Listed, place, places}
+use Rattle.automata.proofs.Laws.{comparing, comparing-more, not-before-long, pairing, reaching-more, same-language, same-many}
 use Rattle.format.specs.Decoding.{automatonOf}
 use Rattle.format.specs.Refusals.{FirstHolds, faultOf, unlessRefused}
 use Rattle.file_laws.proofs.Laws.{NoneHolds, Outcome, at-least, first-exactly, first-some, no-fault, none-first, refused-or-not, same-letters, valid-automaton}
@@ -21,7 +21,7 @@ use Rattle.compare_promise.specs.Promised.{Either, Equivalent, Premises,
 use Rattle.compare_promise.specs.declared.Comparison.{Comparison}
 use Rattle.compare_promise.specs.declared.Comparison.the-variants.{Refused}
 use Rattle.compare_promise.proofs.Refusals.{refusals-decide}
-use Rattle.compare_promise.proofs.ShownBytes.{shown-by, shown-first}
+use Rattle.compare_promise.proofs.ShownBytes.{shown-by, shown-first, shown-listed}
 
 -- ---- the premises of demand 3 are that no condition of a refusal holds
 module _ (first second : List ℕ) (words buffer : ℕ) where
@@ -79,7 +79,7 @@ module _ (first second : List ℕ) (words buffer : ℕ) (p : Premises first seco
   paired-by-runs = pairing x y 256 few₁ few₂
 
   right : Right x y 256 (verdict x y 256 512)
-  right = comparing x y 256 512 (well-formed first (p .valid₁)) (well-formed second (p .valid₂)) (ap length (sym (p .same-letters))) few₁ few₂
+  right = comparing x y 256 512 (well-formed first (p .valid₁)) (well-formed second (p .valid₂)) (same-many x y (p .same-letters)) few₁ few₂
       (at-least 512 (length (pairs x y 256 512)) (λ h. p .few-pairs (comparing-more x y 256 512 .0 h)))
 
 -- one word that exactly one accepts, and the two are not equivalent
@@ -106,6 +106,7 @@ module _ (first second : List ℕ) (words : ℕ) (old new : List ℕ) where
     shows = λ t. absurd t;
     shortest = λ t. absurd t;
     earliest = λ t. absurd t;
+    written = λ t. absurd t;
     counts = λ p. absurd (none p);
     paired = λ p. absurd (none p);
     refuses = first-exactly cs f;
@@ -127,6 +128,7 @@ module _ (first second : List ℕ) (words : ℕ) (old new : List ℕ) where
     shows = λ t. absurd t;
     shortest = λ t. absurd t;
     earliest = λ t. absurd t;
+    written = λ t. absurd t;
     counts = λ _. r .0;
     paired = paired-by-runs first second words (length old);
     refuses = first-exactly cs (none-first cs (none-of first second words (length old) p));
@@ -136,7 +138,7 @@ module _ (first second : List ℕ) (words : ℕ) (old new : List ℕ) where
   }
     where
       one : Equivalent x₁ x₂
-      one = same-language x₁ x₂ (sym (p .same-letters)) (r .1)
+      one = same-language x₁ x₂ (p .same-letters) (r .1)
   answered (different n taker v) r p e = record {
     answers = (λ _. p, λ _. refl);
     same = (λ t. absurd t, λ q. not-equivalent x₁ x₂ taker word by (q .1));
@@ -144,6 +146,7 @@ module _ (first second : List ℕ) (words : ℕ) (old new : List ℕ) where
     shows = λ _. rw front by;
     shortest = λ _ other o. omega (arith, at-least-as-long other o);
     earliest = λ _. rw front first-word;
+    written = λ _. rw front in-its-list;
     counts = λ _. r .0;
     paired = paired-by-runs first second words (length old);
     refuses = first-exactly cs (none-first cs (none-of first second words (length old) p));
@@ -168,10 +171,13 @@ module _ (first second : List ℕ) (words : ℕ) (old new : List ℕ) where
       front = ap (take (length v)) e ∙ take-at word (drop (length word) old) (length v) long
 
       by : ((taker ≡ 1) × Language x₁ word × ¬ Language x₂ word) ⊎ ((taker ≡ 2) × Language x₂ word × ¬ Language x₁ word)
-      by = shown-by x₁ x₂ formed₁ formed₂ (sym (p .same-letters)) taker v (r .1)
+      by = shown-by x₁ x₂ formed₁ formed₂ (p .same-letters) taker v (r .1)
 
       first-word : Earliest (BeforeIn (x₁ .alphabet)) (λ other. Either (Language x₁ other) (Language x₂ other)) word
-      first-word = shown-first x₁ x₂ formed₁ formed₂ (sym (p .same-letters)) taker v (r .1)
+      first-word = shown-first x₁ x₂ formed₁ formed₂ (p .same-letters) taker v (r .1)
+
+      in-its-list : Listed (x₁ .alphabet) word
+      in-its-list = shown-listed x₁ x₂ formed₁ formed₂ (p .same-letters) taker v (r .1)
 
       at-least-as-long : (other : List ℕ) → Either (Language x₁ other) (Language x₂ other) → length v ≤ length other
       at-least-as-long other o =

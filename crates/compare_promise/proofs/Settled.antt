@@ -1,5 +1,6 @@
 -- Settled: what is promised of comparing leaves nothing open. Two answers to one call that both keep the promise are one answer, and the
--- buffers that they leave hold the same bytes: whoever compares the same files is shown the same word (document 02, change 1).
+-- buffers that they leave hold the same bytes: whoever compares the same files is shown the same word (document 02, change 1), in the
+-- same bytes (change 4).
 use mathlib.Core.Path.{_≡_, _∙_, ap, ap₂, refl, sym}
 use mathlib.Core.Logic.{_⊎_, inl, inr}
 use mathlib.Core.List.{List, _++_}
@@ -62,9 +63,9 @@ module _ (first second : List ℕ) (words : ℕ) (old : List ℕ) where
     same-word =
         let formed₁ = well-formed first (premises .valid₁) in
         let formed₂ = well-formed second (premises .valid₂) in
-        let u = one-spells x y formed₁ formed₂ (sym (premises .same-letters)) (take s new) one in
-        let u′ = one-spells x y formed₁ formed₂ (sym (premises .same-letters)) (take s′ new′) one′ in
-        spelled-one (x .alphabet) (formed₁ .letters-apart) (take s new) (take s′ new′) (u .0) (u′ .0) (u .1) (u′ .1) (q .earliest tt .first (take s new) one) (p .earliest tt .first (take s′ new′) one′)
+        let u = one-spells x y formed₁ formed₂ (premises .same-letters) (take s new) one in
+        let u′ = one-spells x y formed₁ formed₂ (premises .same-letters) (take s′ new′) one′ in
+        spelled-one (x .alphabet) (formed₁ .letters-apart) (take s new) (take s′ new′) (u .0) (u′ .0) (p .written tt) (q .written tt) (u .1) (u′ .1) (q .earliest tt .first (take s new) one) (p .earliest tt .first (take s′ new′) one′)
 
     same-taker : k ≡ k′
     same-taker = one-taker k k′ (p .shows tt) (rw same-word (q .shows tt))

@@ -1,14 +1,14 @@
 -- Comparing: what comparing answers of two files, the number of working words and the size of the buffer for the shown word, and what
--- it leaves in that buffer (document 01, 'Comparing' and the order of refusals; document 02, change 1). Words are lists of bytes.
+-- it leaves in that buffer (document 01, 'Comparing' and the order of refusals; document 02, changes 1 and 4). Words are lists of bytes.
 use mathlib.Core.Bool.{Bool, false, not, true, _||_}
 use mathlib.Core.List.{List, [], _∷_, _++_, map}
 use Prim.Native.Nat.{ℕ}
-use lib.Dec.{eqb, ltb}
+use lib.Dec.{ltb}
 use lib.ListN.{drop, getD, length}
 use Rattle.automata.specs.Automaton.{Automaton}
-use Rattle.automata.specs.Lists.{sameBy}
 use Rattle.automata.specs.Pairs.{Verdict, different, pairs, same, verdict}
 use Rattle.automata.specs.Unfolding.{configurations, plainArcs}
+use Rattle.automata.specs.Words.{sameLetters}
 use Rattle.format.specs.Decoding.{automatonOf}
 use Rattle.format.specs.Refusals.{faultOf, unlessRefused}
 use Rattle.compare_promise.specs.declared.Comparison.{Comparison}
@@ -33,14 +33,14 @@ unfolding limitRefusals countRefusals
 tableRefusals L M P x y = limitRefusals L M x 1 ++ limitRefusals L M y 2 ++ countRefusals L P x y
 
 -- of the call: 24, working memory under 8,192 words or a buffer under 512 bytes; the first file's fault; the second's; 10, the letter
--- lists differ; and those above
+-- lists do not agree; and those above
 unfoldable pub refusals : (L M P : ℕ) (first second : List ℕ) (words buffer : ℕ) → List (Bool × ℕ × ℕ)
 unfolding tableRefusals
 refusals L M P first second words buffer =
     (ltb words 8192 || ltb buffer 512, 24, 0)
     ∷ (ltb 0 (faultOf first), faultOf first, 1)
     ∷ (ltb 0 (faultOf second), faultOf second, 2)
-    ∷ (not (sameBy eqb (automatonOf first .alphabet) (automatonOf second .alphabet)), 10, 0)
+    ∷ (not (sameLetters (automatonOf first) (automatonOf second)), 10, 0)
     ∷ tableRefusals L M P (automatonOf first) (automatonOf second)
 
 -- ---- the answer

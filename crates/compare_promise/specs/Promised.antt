@@ -1,9 +1,9 @@
--- Promised: what is promised of comparing (demand 3 and the exact condition of each refusal; which word is shown, change 1 of document
--- 02). Words, languages and configurations are those of runs; plain arcs (22) and pairs of live sets (23 and the count) are document 01's,
+-- Promised: what is promised of comparing (demand 3 and the exact condition of each refusal; which word is shown, changes 1 and 4 of
+-- document 02). Words, languages and configurations are those of runs; plain arcs (22) and pairs of live sets (23 and the count) are document 01's,
 -- over numbered configurations, and `paired` says by runs what one pair is. Nothing here is the contract's but `Told`: a contract that
 -- says less does not give this promise. And a promise that says less leaves something open, which proofs/Settled.antt rules out.
 use mathlib.Core.Path.{_≡_}
-use mathlib.Core.Logic.{_↔_, _⊎_, _≢_}
+use mathlib.Core.Logic.{_↔_, _⊎_}
 use mathlib.Core.List.{List, [], _∷_}
 use Prim.Native.Nat.{ℕ, _≤_, _<_}
 use lib.Dec.{T}
@@ -13,7 +13,7 @@ use Rattle.automata.specs.Counting.{Exactly, MoreThan}
 use Rattle.automata.specs.Pairs.{SomePair, pairOf}
 use Rattle.automata.specs.Unfolding.{plainArcs}
 use Rattle.automata.specs.WordOrder.{BeforeIn, Earliest}
-use Rattle.automata.specs.Words.{Language}
+use Rattle.automata.specs.Words.{Language, Listed, SameLetters}
 use Rattle.format.specs.Decoding.{automatonOf}
 use Rattle.format.specs.Refusals.{FirstHolds, faultOf}
 use Rattle.compare_promise.specs.Comparing.{Told}
@@ -35,7 +35,7 @@ conditions first second words buffer =
     ((words < 8192) ⊎ (buffer < 512), 24, 0)
     ∷ (0 < faultOf first, faultOf first, 1)
     ∷ (0 < faultOf second, faultOf second, 2)
-    ∷ (automatonOf first .alphabet ≢ automatonOf second .alphabet, 10, 0)
+    ∷ (¬ SameLetters (automatonOf first) (automatonOf second), 10, 0)
     ∷ tableConditions (automatonOf first) (automatonOf second)
 
 -- ---- demand 3
@@ -46,7 +46,7 @@ pub record Premises (first second : List ℕ) (words buffer : ℕ) : Type 0 wher
   pub enough-bytes : 512 ≤ buffer
   pub valid₁ : faultOf first ≡ 0
   pub valid₂ : faultOf second ≡ 0
-  pub same-letters : automatonOf first .alphabet ≡ automatonOf second .alphabet
+  pub same-letters : SameLetters (automatonOf first) (automatonOf second)
   pub configurations₁ : ¬ MoreThan (Reachable (automatonOf first)) 256
   pub arcs₁ : length (plainArcs (automatonOf first) 256) ≤ 2048
   pub configurations₂ : ¬ MoreThan (Reachable (automatonOf second)) 256
@@ -76,6 +76,8 @@ pub record Promised (first second : List ℕ) (words : ℕ) (old new : List ℕ)
   pub shortest : T (t .different) → (other : List ℕ) → Either (Language (automatonOf first) other) (Language (automatonOf second) other) → t .size ≤ length other
   -- and it is the first of them: none that is as long has the lower letter where the two first differ, by the letters' places in the list
   pub earliest : T (t .different) → Earliest (BeforeIn (automatonOf first .alphabet)) (λ other. Either (Language (automatonOf first) other) (Language (automatonOf second) other)) (take (t .size) new)
+  -- and it is written in the bytes of the first file's list: other bytes may stand for the same letters
+  pub written : T (t .different) → Listed (automatonOf first .alphabet) (take (t .size) new)
   -- told either, the number is that of the distinct pairs of live sets over all words of the letters
   pub counts : Premises first second words (length old) → Exactly (SomePair (automatonOf first) (automatonOf second) 256) (t .pairs)
   -- two words have one pair just if runs that spell them end in the same configurations, in each of the two automata

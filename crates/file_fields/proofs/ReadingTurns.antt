@@ -1,18 +1,18 @@
 -- ReadingTurns: the definitions of reading at a place of the whole list, one step and the end: what the loops go by.
 use mathlib.Core.Path.{_≡_, refl, sym, _∙_}
-use mathlib.Core.Bool.{Bool, true, false, cond, _&&_}
+use mathlib.Core.Bool.{Bool, true, false, cond, not, _&&_, _||_}
 use mathlib.Core.List.{List, [], _∷_}
 use Prim.Native.Nat.{ℕ, zero, suc, _+_, _-_, _*_, _<_, _≤_}
 use native.Mathlib.Nat.{add-zero}
 use native.Mathlib.Omega.{arith}
 use borrow.Author.Tests.{lt-leb}
-use lib.Dec.{ltb, leb, eqb, leb·suc-suc, leb·suc-zero}
+use lib.Dec.{ltb, leb, leb·suc-suc, leb·suc-zero}
 use lib.ListN.{length, getD, drop, take, length-drop, length-take, drop-of-length-le}
-use lib.Seq.{drop-drop, take-all, drop-cons, getD-drop, getD-take}
+use lib.Seq.{drop-drop, take-all, drop-cons, getD-drop}
+use Rattle.automata.specs.Letters.{sameKey, unlike}
+use Rattle.automata.specs.Lists.{any}
 use Rattle.file_fields.specs.declared.Counts.{Counts}
-use Rattle.file_fields.specs.declared.letters.Letter.the-variants.{At, None}
-use Rattle.file_fields.specs.Parts.{letterBytes, flagBytes, firstArc, ascending, ascendingFront, flags, flagsFront, wellOp, wellOps, opsFront, arcSize, arcTests, arcsTests, allHold, firstFault}
-use Rattle.file_fields.specs.Letters.{letterFrom}
+use Rattle.file_fields.specs.Parts.{letterBytes, flagBytes, firstArc, ascending, ascendingFront, unlikeFront, flags, flagsFront, wellOp, wellOps, opsFront, arcSize, arcTests, arcsTests, allHold, firstFault}
 use Rattle.file_fields.proofs.TestLaws.{all-append, andThen, fault-append}
 
 -- `&s[at..]` is all that is left
@@ -26,11 +26,28 @@ down m i h = omega arith
 pub none-left : (m i : ℕ) → m ≤ i → m - i ≡ 0
 none-left m i h = omega arith
 
--- ---- how many at the front ascend strictly, are flags, are operations: one turn and the end
+-- ---- how many at the front ascend strictly, have no byte of their letter behind them, are flags, are operations, and whether one passes
+-- a test: one turn and the end
 module _ (s : List ℕ) (i : ℕ) where
   pub ascending-at : suc i < length s → ascendingFront (drop i s) ≡ suc (cond (ltb (getD s i 0) (getD s (suc i) 0)) (ascendingFront (drop (suc i) s)) 0)
   unfolding ascendingFront
   ascending-at h = rw (drop-cons s i 0 (omega arith), drop-cons s (suc i) 0 h)
+
+  pub unlike-at : i < length s → unlikeFront (drop i s) ≡ cond (not (any (sameKey (getD s i 0)) (drop (suc i) s))) (suc (unlikeFront (drop (suc i) s))) 0
+  unfolding unlikeFront
+  unlike-at h = rw (drop-cons s i 0 h)
+
+  pub unlike-end : length s ≤ i → unlikeFront (drop i s) ≡ 0
+  unfolding unlikeFront
+  unlike-end h = rw (drop-of-length-le s h)
+
+  pub among-at : (t : ℕ → Bool) → i < length s → any t (drop i s) ≡ (t (getD s i 0) || any t (drop (suc i) s))
+  unfolding any
+  among-at t h = rw (drop-cons s i 0 h)
+
+  pub among-end : (t : ℕ → Bool) → length s ≤ i → any t (drop i s) ≡ false
+  unfolding any
+  among-end t h = rw (drop-of-length-le s h)
 
   pub flags-at : i < length s → flagsFront (drop i s) ≡ cond (leb (getD s i 0) 1) (suc (flagsFront (drop (suc i) s))) 0
   unfolding flagsFront
@@ -61,7 +78,7 @@ module _ (c : Counts) (p i : ℕ) where
   unfolding opsFront
   ops-end l h = rw (none-left p i h)
 
--- ---- all ascend, are flags, are operations just if so many at the front are
+-- ---- all ascend, are unlike, are flags, are operations just if so many at the front are
 pub ascending-all : (l : List ℕ) → ascending l ≡ leb (length l) (ascendingFront l)
 unfolding ascending ascendingFront
 ascending-all [] = refl
@@ -73,23 +90,25 @@ ascending-all (x ∷ y ∷ l) = go (ltb x y) (ascending-all (y ∷ l))
     go true e = e ∙ sym (leb·suc-suc (length (y ∷ l)) (ascendingFront (y ∷ l)))
     go false e = sym (lt-leb (length (x ∷ y ∷ l)) 1 (omega arith))
 
+-- one more in front, which passes its test or not
+one-more : (many front : ℕ) (passes : Bool) {all : Bool} → all ≡ leb many front → (passes && all) ≡ leb (suc many) (cond passes (suc front) 0)
+one-more many front true e = e ∙ sym (leb·suc-suc many front)
+one-more many front false e = sym (leb·suc-zero many)
+
+pub unlike-all : (l : List ℕ) → unlike l ≡ leb (length l) (unlikeFront l)
+unfolding unlike unlikeFront
+unlike-all [] = refl
+unlike-all (x ∷ l) = one-more (length l) (unlikeFront l) (not (any (sameKey x) l)) (unlike-all l)
+
 pub flags-all : (l : List ℕ) → flags l ≡ leb (length l) (flagsFront l)
 unfolding flags flagsFront
 flags-all [] = refl
-flags-all (x ∷ l) = go (leb x 1) (flags-all l)
-  where
-    go : (b : Bool) → flags l ≡ leb (length l) (flagsFront l) → (b && flags l) ≡ leb (length (x ∷ l)) (cond b (suc (flagsFront l)) 0)
-    go true e = e ∙ sym (leb·suc-suc (length l) (flagsFront l))
-    go false e = sym (leb·suc-zero (length l))
+flags-all (x ∷ l) = one-more (length l) (flagsFront l) (leb x 1) (flags-all l)
 
 pub ops-all : (c : Counts) (p : ℕ) (l : List ℕ) → wellOps c p l ≡ leb p (opsFront c p l)
 unfolding wellOps opsFront
 ops-all c zero l = refl
-ops-all c (suc p) l = go (wellOp c (getD l 0 0) (getD l 1 0)) (ops-all c p (drop 2 l))
-  where
-    go : (b : Bool) → wellOps c p (drop 2 l) ≡ leb p (opsFront c p (drop 2 l)) → (b && wellOps c p (drop 2 l)) ≡ leb (suc p) (cond b (suc (opsFront c p (drop 2 l))) 0)
-    go true e = e ∙ sym (leb·suc-suc p (opsFront c p (drop 2 l)))
-    go false e = sym (leb·suc-zero p)
+ops-all c (suc p) l = one-more p (opsFront c p (drop 2 l)) (wellOp c (getD l 0 0) (getD l 1 0)) (ops-all c p (drop 2 l))
 
 -- ---- the arcs that are left
 module _ (m i : ℕ) (c : Counts) (at : ℕ) (s : List ℕ) where
@@ -110,15 +129,6 @@ module _ (m i : ℕ) (c : Counts) (at : ℕ) (s : List ℕ) where
   unfolding arcsTests
   arcs-end h = rw (none-left m i h, length-drop)
 
-module _ (b i : ℕ) (l : List ℕ) where
-  pub letter-at : i < length l → letterFrom i b (drop i l) ≡ cond (eqb (getD l i 0) b) (At i) (letterFrom (suc i) b (drop (suc i) l))
-  unfolding letterFrom
-  letter-at h = rw (drop-cons l i 0 h)
-
-  pub letter-end : length l ≤ i → letterFrom i b (drop i l) ≡ None
-  unfolding letterFrom
-  letter-end h = rw (drop-of-length-le l h)
-
 module _ (c : Counts) (s : List ℕ) where
   pub letters-length : 12 + c .letters ≤ length s → length (letterBytes c s) ≡ c .letters
   letters-length h = simp (length-take, length-drop) (omega arith)
@@ -126,5 +136,6 @@ module _ (c : Counts) (s : List ℕ) where
   pub flags-length : firstArc c ≤ length s → length (flagBytes c s) ≡ c .states
   flags-length h = simp (length-take, length-drop) (omega arith)
 
-  pub letters-at : (i : ℕ) → i < c .letters → getD (letterBytes c s) i 0 ≡ getD s (12 + i) 0
-  letters-at i h = rw (getD-take, getD-drop)
+  -- the letters as code lends them, `&s[12..12 + letters]`
+  pub lent-letters : take (12 + c .letters - 12) (drop 12 s) ≡ letterBytes c s
+  lent-letters = let e : 12 + c .letters - 12 ≡ c .letters = omega arith in rw e

@@ -1,16 +1,16 @@
--- Letters: the number of the letter that a byte stands for (document 01, 'Runs and slips').
-use mathlib.Core.Bool.{cond}
-use mathlib.Core.List.{List, [], _∷_}
-use Prim.Native.Nat.{ℕ, suc}
-use lib.Dec.{eqb}
+-- Letters: the number of the letter that a byte stands for, as code answers it (automata's specs/Words.antt says which it is).
+use mathlib.Core.List.{List}
+use mathlib.Core.Option.{Option, none, some}
+use Prim.Native.Nat.{ℕ}
+use Rattle.automata.specs.Words.{letterWith}
 use Rattle.file_fields.specs.declared.letters.Letter.{Letter}
 use Rattle.file_fields.specs.declared.letters.Letter.the-variants.{At, None}
 
--- the place of the byte b among the letters l, the first of which has the number i
-unfoldable pub letterFrom : ℕ → ℕ → List ℕ → Letter
-letterFrom i b [] = None
-letterFrom i b (x ∷ l) = cond (eqb x b) (At i) (letterFrom (suc i) b l)
+-- a number, or none
+abbrev pub letterTold : Option ℕ → Letter
+letterTold none = None
+letterTold (some k) = At k
 
--- the number of the letter with the byte b
-abbrev pub letterNumber : ℕ → List ℕ → Letter
-letterNumber b l = letterFrom 0 b l
+-- the number of the letter that the byte stands for
+abbrev pub letterNumber : (alphabet : List ℕ) (byte : ℕ) → Letter
+letterNumber alphabet byte = letterTold (letterWith alphabet byte)

@@ -1,11 +1,14 @@
 -- Parts: the tests of the parts of a file, each with the number of the fault where it fails and its place, in bytes from the file's
 -- start; and what the first that fails answers. Where the file ends inside a part, the place is where that part begins.
--- Renders document 01, 'The book file' and 'Refused because of what was handed in', 1 to 9; format's specs/Reading.antt puts the parts together.
+-- Renders document 01, 'The book file' and 'Refused because of what was handed in', 1 to 9, with document 02, change 4;
+-- format's specs/Reading.antt puts the parts together.
 use mathlib.Core.Bool.{Bool, true, not, cond, _||_, _&&_}
 use mathlib.Core.List.{List, [], _∷_, _++_}
 use Prim.Native.Nat.{ℕ, zero, suc, _+_, _*_, _/_, _%_}
 use lib.Dec.{eqb, ltb, leb}
 use lib.ListN.{length, getD, drop, take}
+use Rattle.automata.specs.Letters.{key, sameKey, unlike}
+use Rattle.automata.specs.Lists.{any}
 use Rattle.file_fields.specs.declared.Counts.{Counts}
 use Rattle.file_fields.specs.declared.Reading.{Reading}
 use Rattle.file_fields.specs.declared.Reading.the-variants.{Valid, Refused}
@@ -62,11 +65,19 @@ ascendingFront [] = 0
 ascendingFront (x ∷ []) = 1
 ascendingFront (x ∷ y ∷ l) = suc (cond (ltb x y) (ascendingFront (y ∷ l)) 0)
 
--- 1 the letters want a bytes; 5 letters not strictly ascending, at the first that is not above the one before it
+-- how many at the front have no byte of their letter behind them (document 02, change 4)
+unfoldable pub unlikeFront : List ℕ → ℕ
+unfolding any key
+unlikeFront [] = 0
+unlikeFront (x ∷ l) = cond (not (any (sameKey x) l)) (suc (unlikeFront l)) 0
+
+-- 1 the letters want a bytes; 5 letters not strictly ascending, at the first that is not above the one before it; 5 a letter in both
+-- cases, at the first whose other case is behind it
 abbrev pub letterTests : Counts → List ℕ → List (Bool × ℕ × ℕ)
 letterTests c s =
     (leb (12 + c .letters) (length s), 1, 12)
     ∷ (ascending (letterBytes c s), 5, 12 + ascendingFront (letterBytes c s))
+    ∷ (unlike (letterBytes c s), 5, 12 + unlikeFront (letterBytes c s))
     ∷ []
 
 -- ---- the final flags

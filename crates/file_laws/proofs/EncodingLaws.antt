@@ -10,6 +10,7 @@ use lib.Dec.{eqb, leb, ltb}
 use lib.ListN.{length, drop, take, length-append, length-map}
 use lib.Seq.{drop-drop, take-at, drop-at}
 use Rattle.automata.specs.Automaton.{Op, reads, writes, Arc, Automaton, register, symbol, KeepsZero}
+use Rattle.automata.specs.Letters.{unlike}
 use Rattle.file_fields.specs.declared.Counts.{Counts}
 use Rattle.file_fields.specs.declared.Reading.the-variants.{Valid}
 use Rattle.file_fields.specs.Parts.{countsOf, letterBytes, ascending, flagBytes, firstArc, flags, operationTests, wellOp, wellOps, arcSize, arcTests, arcsTests}
@@ -18,7 +19,7 @@ use Rattle.format.specs.Decoding.{opOf, opsOf, letterOf, arcOf, arcsOf, isFinal
 use Rattle.format.specs.Encoding.{sizes, flagByte, kind, opsBytes, letterByte, arcBytes, arcsBytes, bytesOf}
 use Rattle.format.specs.Limits.{Ranges, Fits}
 use Rattle.automata.specs.Lists.{Each}
-use Rattle.automata.proofs.Laws.{each-join}
+use Rattle.automata.proofs.Laws.{bool-ext, each-join, unlike-iff}
 use Rattle.file_fields.proofs.Laws.{Hold, Holds}
 use Rattle.format.proofs.Laws.{HeaderSeen}
 use Rattle.file_laws.proofs.Fitting.{OpFits, ArcFits, arcs-fit}
@@ -183,6 +184,7 @@ module _ (x : Automaton) where
     counts = counts-back;
     header = header-seen (h .ranges);
     rising = ap ascending letters-part ∙ h .ascends;
+    unlike = ap unlike letters-part ∙ bool-ext (unlike (x .alphabet)) true (λ _. tt) (λ _. unlike-iff (x .alphabet) .1 (h .well-formed .letters-apart));
     there = omega (arith, bytes-length);
     flags = ap flags flags-part ∙ flags-well (x .finals);
     arcs = subst (λ l. Hold (arcsTests (c .arcs) c (firstArc c) l)) (sym arcs-part) (arcs-well c (h .ranges) (firstArc c) (x .arcs) (arcs-fit x h));

@@ -30,7 +30,7 @@ spoiled =
     ∷ set fileT 2 0x43
     ∷ set fileT 4 1
     ∷ set fileT 5 65 ∷ set fileT 6 0 ∷ set fileT 7 2 ∷ set fileT 8 0 ∷ set fileT 8 9 ∷ set fileT 9 0 ∷ set fileT 9 17 ∷ set fileT 11 9
-    ∷ set fileT 13 0x63
+    ∷ set fileT 13 0x63 ∷ set fileT 12 0x45 ∷ set fileT 13 0x4D ∷ set fileT 12 0x4D
     ∷ set fileT 15 2
     ∷ set fileT 18 3 ∷ set fileT 19 3 ∷ set fileT 20 3 ∷ set fileT 21 0 ∷ set fileT 21 9
     ∷ set fileT 22 0x21 ∷ set fileT 22 0x12 ∷ set fileT 23 3 ∷ set fileT 22 0x10 ∷ set fileT 35 1
@@ -44,7 +44,7 @@ faults =
     ∷ Refused 2 0
     ∷ Refused 3 3
     ∷ Refused 4 5 ∷ Refused 4 6 ∷ Refused 4 6 ∷ Refused 4 8 ∷ Refused 4 8 ∷ Refused 4 9 ∷ Refused 4 9 ∷ Refused 4 10
-    ∷ Refused 5 13
+    ∷ Refused 5 13 ∷ Refused 5 12 ∷ Refused 5 13 ∷ Refused 5 12
     ∷ Refused 6 15
     ∷ Refused 7 18 ∷ Refused 7 19 ∷ Refused 7 20 ∷ Refused 7 21 ∷ Refused 7 21
     ∷ Refused 8 22 ∷ Refused 8 22 ∷ Refused 8 22 ∷ Refused 8 22 ∷ Refused 8 34

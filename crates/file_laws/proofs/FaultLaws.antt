@@ -33,7 +33,7 @@ arcs-known c (suc m) at l = (refl, (refl, (refl, (refl, (refl, (refl, (refl, arc
 tests-known : (s : List ℕ) → Each (λ t. Known (t .1)) (fileTests s)
 tests-known s =
     let c = countsOf s in
-    (refl, (refl, (refl, (refl, (refl, (refl, (refl, (refl, (refl, (refl, (refl, (refl, arcs-known c (c .arcs) (firstArc c) (drop (firstArc c) s)))))))))))))
+    (refl, (refl, (refl, (refl, (refl, (refl, (refl, (refl, (refl, (refl, (refl, (refl, (refl, arcs-known c (c .arcs) (firstArc c) (drop (firstArc c) s))))))))))))))
 
 pub number-known : (s : List ℕ) (n : ℕ) {place : ℕ} → readingOf s ≡ Refused n place → (1 ≤ n) × (n ≤ 9)
 unfolding readingOf

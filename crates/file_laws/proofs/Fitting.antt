@@ -5,11 +5,12 @@ use mathlib.Core.Option.{some}
 use Prim.Native.Nat.{ℕ, _≤_, _<_}
 use lib.ListN.{length}
 use Rattle.automata.specs.Automaton.{Op, Arc, Automaton, register, symbol, KeepsZero}
+use Rattle.automata.specs.Counting.{Apart}
+use Rattle.automata.specs.Letters.{keys}
 use Rattle.file_fields.specs.declared.Counts.{Counts}
 use Rattle.file_fields.specs.Parts.{ascending}
 use Rattle.format.specs.Encoding.{sizes}
 use Rattle.format.specs.Limits.{Ranges, Fits}
-use Rattle.file_fields.proofs.Laws.{ascending-apart}
 use Rattle.automata.specs.Lists.{Each}
 use Rattle.automata.proofs.Laws.{each-mem, mem-each}
 
@@ -42,12 +43,12 @@ module _ (x : Automaton) where
         ops = mem-each (a .ops) λ o n. record { inside = w .inside a m o n; small = w .small a m o n; zero-kept = w .zero-kept a m o n };
       }
 
-  pub fits-by : Ranges c → ascending (x .alphabet) ≡ true → Each (ArcFits c) (x .arcs) → Fits x
-  fits-by r e h = record {
+  pub fits-by : Ranges c → ascending (x .alphabet) ≡ true → Apart (keys (x .alphabet)) → Each (ArcFits c) (x .arcs) → Fits x
+  fits-by r e apart h = record {
     well-formed = record {
       some-state = r .some-state;
       some-register = r .some-register;
-      letters-apart = ascending-apart (x .alphabet) e;
+      letters-apart = apart;
       sources = λ a m. each-mem (ArcFits c) h m .source;
       targets = λ a m. each-mem (ArcFits c) h m .target;
       lettered = λ a m. each-mem (ArcFits c) h m .lettered;

@@ -9,9 +9,10 @@ use borrow.Author.Tests.{leb-true, le-leb, lt-leb}
 use lib.Dec.{leb}
 use lib.ListN.{length, getD, drop, length-drop, length-append, List·getD-append}
 use lib.Seq.{take-append-le, drop-append-le}
+use Rattle.automata.specs.Letters.{unlike}
 use Rattle.file_fields.specs.declared.Counts.{Counts}
 use Rattle.file_fields.specs.declared.Reading.the-variants.{Valid, Refused}
-use Rattle.file_fields.specs.Parts.{two, marked, countsOf, part, ascending, firstArc, flags, fieldTests, wellOp, wellOps, arcSize, arcTests, arcsTests, headerTests, firstFault}
+use Rattle.file_fields.specs.Parts.{two, marked, countsOf, part, letterBytes, ascending, firstArc, flags, fieldTests, wellOp, wellOps, arcSize, arcTests, arcsTests, headerTests, firstFault}
 use Rattle.format.specs.Reading.{bodyTests, readingOf}
 use Rattle.format.specs.Limits.{Ranges}
 use Rattle.automata.proofs.Laws.{each-split}
@@ -140,6 +141,7 @@ module _ (t : List ℕ) (more : 0 < length t) where
         ∙ rw (
           le-leb (12 + c .letters) (length longer) (omega (arith, f .there, more-bytes)),
           ap ascending (part-front 12 (c .letters) s (omega (arith, f .there))) ∙ f .rising,
+          ap unlike (part-front 12 (c .letters) s (omega (arith, f .there))) ∙ f .unlike,
           le-leb (firstArc c) (length longer) (omega (arith, f .there, more-bytes)),
           ap flags (part-front (12 + c .letters) (c .states) s (f .there)) ∙ f .flags,
           drop-append-le (firstArc c) s t (f .there),
@@ -182,13 +184,19 @@ module _ (t : List ℕ) (more : 0 < length t) where
         arcs : firstArc c ≤ length s → Hold (arcsTests (c .arcs) c (firstArc c) (drop (firstArc c) s ++ t))
         arcs h = subst (λ l. Hold (arcsTests (c .arcs) c (firstArc c) l)) (drop-append-le (firstArc c) s t h) (f .arcs)
 
+        letters-rise : 12 + c .letters ≤ length s → ascending (letterBytes c s) ≡ true
+        letters-rise h = sym (ap ascending (part-front 12 (c .letters) s h)) ∙ f .rising
+
+        letters-unlike : 12 + c .letters ≤ length s → unlike (letterBytes c s) ≡ true
+        letters-unlike h = sym (ap unlike (part-front 12 (c .letters) s h)) ∙ f .unlike
+
         to-arcs : 12 + c .letters ≤ length s → (b : Bool) → leb (firstArc c) (length s) ≡ b → Cut
-        to-arcs h false g = (12 + c .letters, rw (le-leb (12 + c .letters) (length s) h, sym (ap ascending (part-front 12 (c .letters) s h)) ∙ f .rising, g))
+        to-arcs h false g = (12 + c .letters, rw (le-leb (12 + c .letters) (length s) h, letters-rise h, letters-unlike h, g))
         to-arcs h true g =
             let k = leb-true _ _ g in
             let r = arcs-cut c (c .arcs) (firstArc c) (drop (firstArc c) s) (arcs k) in (
               r .0,
-              rw (le-leb (12 + c .letters) (length s) h, sym (ap ascending (part-front 12 (c .letters) s h)) ∙ f .rising, g, sym (ap flags (part-front (12 + c .letters) (c .states) s k)) ∙ f .flags)
+              rw (le-leb (12 + c .letters) (length s) h, letters-rise h, letters-unlike h, g, sym (ap flags (part-front (12 + c .letters) (c .states) s k)) ∙ f .flags)
                   (r .1),
             )
 

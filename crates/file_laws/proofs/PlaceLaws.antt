@@ -1,6 +1,6 @@
 -- PlaceLaws: the place of a fault lies in the file, or is its end; and where it is behind the header, the header has no fault.
 use mathlib.Core.Path.{_≡_, refl}
-use mathlib.Core.Bool.{Bool, true, false, cond}
+use mathlib.Core.Bool.{Bool, true, false, cond, not}
 use mathlib.Core.List.{List, [], _∷_, _++_}
 use Prim.Native.Nat.{ℕ, zero, suc, _+_, _<_, _≤_}
 use native.Mathlib.Omega.{arith}
@@ -9,11 +9,12 @@ use lib.Dec.{leb, ltb}
 use lib.ListN.{length, getD, drop, length-drop}
 use Rattle.file_fields.specs.declared.Counts.{Counts}
 use Rattle.file_fields.specs.declared.Reading.the-variants.{Refused}
-use Rattle.file_fields.specs.Parts.{countsOf, letterBytes, flagBytes, firstArc, ascendingFront, flagsFront, wellOp, opsFront, arcSize, arcTests, arcsTests, headerTests, firstFault}
+use Rattle.file_fields.specs.Parts.{countsOf, letterBytes, flagBytes, firstArc, ascendingFront, unlikeFront, flagsFront, wellOp, opsFront, arcSize, arcTests, arcsTests, headerTests, firstFault}
 use Rattle.format.specs.Reading.{bodyTests, fileTests, readingOf}
 use Rattle.format.specs.Limits.{Ranges}
 use Rattle.format.proofs.Laws.{header-seen}
-use Rattle.automata.specs.Lists.{Each}
+use Rattle.automata.specs.Letters.{sameKey}
+use Rattle.automata.specs.Lists.{Each, any}
 use Rattle.file_fields.proofs.Laws.{Hold, flags-length, letters-length}
 use Rattle.file_arcs.proofs.Laws.{arc-seen}
 
@@ -25,6 +26,15 @@ ascending-most (x ∷ []) = omega arith
 ascending-most (x ∷ y ∷ l) = go (ltb x y) (ascending-most (y ∷ l))
   where
     go : (b : Bool) → ascendingFront (y ∷ l) ≤ length (y ∷ l) → suc (cond b (ascendingFront (y ∷ l)) 0) ≤ length (x ∷ y ∷ l)
+    go true h = omega arith
+    go false h = omega arith
+
+unlike-most : (l : List ℕ) → unlikeFront l ≤ length l
+unfolding unlikeFront
+unlike-most [] = omega arith
+unlike-most (x ∷ l) = go (not (any (sameKey x) l)) (unlike-most l)
+  where
+    go : (b : Bool) → unlikeFront l ≤ length l → cond b (suc (unlikeFront l)) 0 ≤ length (x ∷ l)
     go true h = omega arith
     go false h = omega arith
 
@@ -110,12 +120,15 @@ module _ (s : List ℕ) where
   body-inside : (c : Counts) → 12 ≤ length s → Inside (length s) (bodyTests c s)
   body-inside c h = (
     omega arith,
-    λ a. let k = leb-true (12 + c .letters) (length s) a in let n = letters-length c s k in let m = ascending-most (letterBytes c s) in (
+    λ a. let k = leb-true (12 + c .letters) (length s) a in let n = letters-length c s k in let m = ascending-most (letterBytes c s) in let u = unlike-most (letterBytes c s) in (
       omega arith,
       λ _. (
         omega arith,
-        λ f. let j = leb-true (firstArc c) (length s) f in let n = flags-length c s j in let m = flags-most (flagBytes c s) in
-            (omega arith, λ _. arcs-inside (length s) c (c .arcs) (firstArc c) (drop (firstArc c) s) (omega (arith, length-drop (firstArc c) s))),
+        λ _. (
+          omega arith,
+          λ f. let j = leb-true (firstArc c) (length s) f in let n = flags-length c s j in let m = flags-most (flagBytes c s) in
+              (omega arith, λ _. arcs-inside (length s) c (c .arcs) (firstArc c) (drop (firstArc c) s) (omega (arith, length-drop (firstArc c) s))),
+        ),
       ),
     ),
   )

@@ -3,11 +3,12 @@
 use mathlib.Core.Path.{_≡_, refl, sym, ap, _∙_, subst}
 use mathlib.Core.Bool.{true}
 use mathlib.Core.List.{List, map}
-use Prim.Native.Nat.{ℕ, zero, suc, _+_, _-_, _*_, _≤_}
+use Prim.Native.Nat.{ℕ, zero, suc, _+_, _*_, _≤_}
 use native.Mathlib.Omega.{arith}
 use borrow.Author.Tests.{leb-true, le-leb}
-use lib.ListN.{length, drop, take, length-drop, length-take, length-map}
+use lib.ListN.{length, drop, length-drop, length-take, length-map}
 use Rattle.automata.specs.Automaton.{Automaton, WellFormed}
+use Rattle.automata.specs.Letters.{unlike}
 use Rattle.file_fields.specs.declared.Counts.{Counts}
 use Rattle.file_fields.specs.declared.Reading.the-variants.{Valid}
 use Rattle.file_fields.specs.Parts.{countsOf, letterBytes, ascending, flagBytes, firstArc, flags, arcSize, arcsTests, headerTests}
@@ -17,7 +18,7 @@ use Rattle.format.specs.Encoding.{sizes}
 use Rattle.format.specs.Limits.{Ranges, Fits}
 use Rattle.format.specs.Placed.{whole, OkArcs, Lies}
 use Rattle.automata.specs.Lists.{Each}
-use Rattle.automata.proofs.Laws.{each-join}
+use Rattle.automata.proofs.Laws.{each-join, unlike-iff}
 use Rattle.file_fields.proofs.Laws.{Hold, Holds, hold-valid, letters-length, valid-hold}
 use Rattle.format.proofs.Laws.{HeaderSeen, header-seen, seen-header}
 use Rattle.file_laws.proofs.Fitting.{ArcFits, fits-by}
@@ -28,6 +29,7 @@ pub record FileSeen (c : Counts) (s : List ℕ) : Type 0 where
   pub counts : countsOf s ≡ c
   pub header : HeaderSeen s
   pub rising : ascending (letterBytes c s) ≡ true
+  pub unlike : unlike (letterBytes c s) ≡ true
   pub there : firstArc c ≤ length s
   pub flags : flags (flagBytes c s) ≡ true
   pub arcs : Hold (arcsTests (c .arcs) c (firstArc c) (drop (firstArc c) s))
@@ -43,9 +45,10 @@ file-seen s c e =
       counts = refl;
       header = header-seen s (h .0, (h .1 .0, (h .1 .1 .0, (counts .0, (counts .1 .0, (counts .1 .1 .0, (counts .1 .1 .1 .0, (counts .1 .1 .1 .1 .0, tt))))))));
       rising = body .1 .0;
-      there = leb-true _ _ (body .1 .1 .0);
-      flags = body .1 .1 .1 .0;
-      arcs = body .1 .1 .1 .1;
+      unlike = body .1 .1 .0;
+      there = leb-true _ _ (body .1 .1 .1 .0);
+      flags = body .1 .1 .1 .1 .0;
+      arcs = body .1 .1 .1 .1 .1;
     })
 
 pub seen-file : (s : List ℕ) (c : Counts) → FileSeen c s → readingOf s ≡ Valid c
@@ -53,7 +56,7 @@ unfolding readingOf
 seen-file s c f = hold-valid (fileTests s) (countsOf s) (each-join Holds (headerTests s) (bodyTests (countsOf s) s) (seen-header s (f .header)) body) ∙ ap Valid (f .counts)
   where
     all : Hold (bodyTests c s)
-    all = (le-leb (12 + c .letters) (length s) (omega (arith, f .there)), (f .rising, (le-leb _ _ (f .there), (f .flags, f .arcs))))
+    all = (le-leb (12 + c .letters) (length s) (omega (arith, f .there)), (f .rising, (f .unlike, (le-leb _ _ (f .there), (f .flags, f .arcs)))))
 
     body : Hold (bodyTests (countsOf s) s)
     body = subst (λ (d : Counts). Hold (bodyTests d s)) (sym (f .counts)) all
@@ -67,17 +70,13 @@ decoded-sizes s c h =
     let m = arcs-count (c .arcs) (drop (firstArc c) s) in
     λ i. record { letters = a i; states = f i; registers = c .registers; symbols = c .symbols; arcs = m i }
 
--- the letters as code lends them, `&s[12..12 + letters]`
-pub lent-letters : (c : Counts) (s : List ℕ) → take (12 + c .letters - 12) (drop 12 s) ≡ letterBytes c s
-lent-letters c s = let e : 12 + c .letters - 12 ≡ c .letters = omega arith in rw e
-
 module _ (s : List ℕ) (c : Counts) where
   decoded-fits : FileSeen c s → Ranges c → Fits (decoded c s)
   unfolding decoded
   decoded-fits f r =
       let same = sym (decoded-sizes s c (f .there)) in
       let a = arcs-seen c (c .arcs) (firstArc c) (drop (firstArc c) s) (r .symbols) (f .arcs) in
-      fits-by (decoded c s) (subst (λ (d : Counts). Ranges d) same r) (f .rising) (subst (λ (d : Counts). Each (ArcFits d) (decoded c s .arcs)) same (a .fit))
+      fits-by (decoded c s) (subst (λ (d : Counts). Ranges d) same r) (f .rising) (unlike-iff (letterBytes c s) .0 (rw (f .unlike) tt)) (subst (λ (d : Counts). Each (ArcFits d) (decoded c s .arcs)) same (a .fit))
 
   module _ (e : readingOf s ≡ Valid c) where
     abbrev seen : FileSeen c s

@@ -2,17 +2,19 @@
 use mathlib.Core.Path.{_≡_, refl, subst}
 use mathlib.Core.Logic.{_↔_, _⊎_, inl, inr, ⊎-elim}
 use mathlib.Core.Bool.{Bool, _&&_, _||_, cond, false, not, true}
-use mathlib.Core.List.{List, _++_, [], _∷_, map}
+use mathlib.Core.List.{List, List·Memᴰ, _++_, [], _∷_, map}
 use Prim.Native.Nat.{_%_, _*_, _+_, _/_, _<_, _≤_, suc, zero, ℕ}
 use native.Mathlib.Omega.{arith}
 use lib.Dec.{T, eqb, leb, leb→le, le→leb, ltb, ltb→lt, lt→ltb}
 use lib.ListN.{drop, getD, length}
-use Rattle.automata.proofs.Laws.{and-iff, eqb-iff, or-iff}
+use Rattle.automata.specs.Letters.{key, keys, sameKey, unlike}
+use Rattle.automata.specs.Lists.{any}
+use Rattle.automata.proofs.Laws.{and-iff, eqb-iff, listed-iff, not-iff, or-iff}
 use Rattle.file_fields.specs.declared.Counts.{Counts}
-use Rattle.file_fields.specs.Parts.{arcSize, arcsTests, ascending, ascendingFront, countsOf, firstArc, firstFault, flagBytes, flags, flagsAt, flagsFront, letterBytes, marked, opsFront, wellOp, wellOps}
+use Rattle.file_fields.specs.Parts.{arcSize, arcsTests, ascending, ascendingFront, countsOf, firstArc, firstFault, flagBytes, flags, flagsAt, flagsFront, letterBytes, marked, opsFront, unlikeFront, wellOp, wellOps}
 use Rattle.format.specs.Reading.{fileTests, readingOf, told}
 use Rattle.format.specs.Refusals.{FirstHolds}
-use Rattle.file_laws.specs.Wanted.{IsOperation, Within, eachArc, eachFlag, eachLetter, eachOperation, faults, wanted}
+use Rattle.file_laws.specs.Wanted.{IsOperation, Within, eachArc, eachFlag, eachLetter, eachOperation, eachUnlike, faults, wanted}
 
 -- ---- a test, and what it tells
 record Tells (test : Bool) (P : Type 0) : Type 0 where
@@ -51,6 +53,13 @@ mark : (s : List ℕ) → Tells (marked s) ((getD s 0 0 ≡ 0x4D) × (getD s 1 0
 mark s = let t = both (both (equal (getD s 0 0) 0x4D) (equal (getD s 1 0) 0x4C)) (equal (getD s 2 0) 0x42) in
     record { iff = (λ w. let p = t .iff .0 w in (p .0 .0, p .0 .1, p .1), λ p. t .iff .1 ((p .0, p .1), p .2)) }
 
+-- no byte behind x stands for the same letter
+other-letters : (x : ℕ) (l : List ℕ) → Tells (not (any (sameKey x) l)) (¬ List·Memᴰ (key x) (keys l))
+other-letters x l =
+    let n = not-iff (any (sameKey x) l) in
+    let i = listed-iff x l in
+    record { iff = (λ t m. n .0 t (i .1 m), λ h. n .1 (λ t. h (i .0 t))) }
+
 -- ---- one test after the other
 -- the first thing wanted that is not so has the number and the place that the tests' answer tells
 pub record Finds (wants : List (Type 0 × ℕ × ℕ)) (tests : List (Bool × ℕ × ℕ)) (c : Counts) : Type 0 where
@@ -77,6 +86,13 @@ module _ (c : Counts) (ws : List (Type 0 × ℕ × ℕ)) (ts : List (Bool × ℕ
   letters-found at (x ∷ y ∷ l) =
       let k = ascendingFront (y ∷ l) in
       many (ascending (y ∷ l)) (at + 1) (at + 1 + k) (λ b. at + suc (cond b k 0)) (less x y) (omega arith) (omega arith) (letters-found (at + 1) (y ∷ l))
+
+  unlike-found : (at : ℕ) (l : List ℕ) → Finds (eachUnlike at l ++ ws) ((unlike l, 5, at + unlikeFront l) ∷ ts) c
+  unfolding eachUnlike unlike unlikeFront firstFault
+  unlike-found at [] = record { found = rest .found }
+  unlike-found at (x ∷ l) =
+      let k = unlikeFront l in
+      many (unlike l) at (at + 1 + k) (λ b. at + cond b (suc k) 0) (other-letters x l) (omega arith) (omega arith) (unlike-found (at + 1) l)
 
   flags-found : (at : ℕ) (l : List ℕ) → Finds (eachFlag at l ++ ws) ((flags l, 6, at + flagsFront l) ∷ ts) c
   unfolding eachFlag flags flagsFront firstFault
@@ -118,8 +134,10 @@ file-found s =
     step (most (c .arcs) 2048) λ _.
     step (most (12 + c .letters) (length s)) λ _.
     letters-found c _ _ (
+    unlike-found c _ _ (
     step (most (firstArc c) (length s)) λ _.
     flags-found c _ _ (arcs-found c (c .arcs) (firstArc c) (drop (firstArc c) s)) (flagsAt c) (flagBytes c s)
+    ) 12 (letterBytes c s)
     ) 12 (letterBytes c s)
 
 pub file-first : (s : List ℕ) → FirstHolds (faults s) (told (readingOf s) .number) (told (readingOf s) .place)

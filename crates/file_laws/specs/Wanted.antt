@@ -1,11 +1,13 @@
 -- Wanted: what is wanted of a file, in the order of reading, each with the number of the fault and its place where it is not so (document
--- 01, 'The book file' and 1 to 9). These are statements about bytes, apart from the tests that reading's contract computes (format's
--- specs/Reading.antt). Only where a part stands is told as there (file_fields' specs/Parts.antt), since decoding goes by it too.
+-- 01, 'The book file' and 1 to 9; document 02, change 4). These are statements about bytes, apart from the tests that reading's contract
+-- computes (format's specs/Reading.antt). Only where a part stands is told as there (file_fields' specs/Parts.antt), since decoding goes by
+-- it too, and which bytes stand for one letter (`key`, which automata's theorem one-letter holds in place).
 use mathlib.Core.Path.{_≡_}
 use mathlib.Core.Logic.{_⊎_}
-use mathlib.Core.List.{List, [], _++_, _∷_, map}
+use mathlib.Core.List.{List, List·Memᴰ, [], _++_, _∷_, map}
 use Prim.Native.Nat.{_%_, _*_, _+_, _/_, _<_, _≤_, suc, zero, ℕ}
 use lib.ListN.{drop, getD, length}
+use Rattle.automata.specs.Letters.{key, keys}
 use Rattle.file_fields.specs.declared.Counts.{Counts}
 use Rattle.file_fields.specs.Parts.{arcSize, countsOf, firstArc, flagBytes, flagsAt, letterBytes}
 
@@ -32,9 +34,18 @@ eachLetter at [] = []
 eachLetter at (x ∷ []) = []
 eachLetter at (x ∷ y ∷ l) = (x < y, 5, at + 1) ∷ eachLetter (at + 1) (y ∷ l)
 
+-- and none is the same letter as one behind it, in the other case (document 02, change 4)
+unfoldable pub eachUnlike : (at : ℕ) → List ℕ → List (Type 0 × ℕ × ℕ)
+eachUnlike at [] = []
+eachUnlike at (x ∷ l) = (¬ List·Memᴰ (key x) (keys l), 5, at) ∷ eachUnlike (at + 1) l
+
 -- the letters: all there before any is looked at
 abbrev pub letterWants : Counts → List ℕ → List (Type 0 × ℕ × ℕ)
 letterWants c s = (flagsAt c ≤ length s, 1, 12) ∷ eachLetter 12 (letterBytes c s)
+
+-- and no letter in both cases
+abbrev pub caseWants : Counts → List ℕ → List (Type 0 × ℕ × ℕ)
+caseWants c s = eachUnlike 12 (letterBytes c s)
 
 -- flags, the first of which stands at the place `at`: each is 00 or 01
 unfoldable pub eachFlag : (at : ℕ) → List ℕ → List (Type 0 × ℕ × ℕ)
@@ -78,7 +89,7 @@ eachArc c (suc m) at l = arcWants c at l ++ eachArc c m (at + arcSize l) (drop (
 
 -- the whole file
 abbrev pub wanted : List ℕ → List (Type 0 × ℕ × ℕ)
-wanted s = let c = countsOf s in headerWants s ++ (letterWants c s ++ (flagWants c s ++ eachArc c (c .arcs) (firstArc c) (drop (firstArc c) s)))
+wanted s = let c = countsOf s in headerWants s ++ (letterWants c s ++ (caseWants c s ++ (flagWants c s ++ eachArc c (c .arcs) (firstArc c) (drop (firstArc c) s))))
 
 -- its faults: each thing wanted that is not so
 abbrev pub faults : List ℕ → List (Type 0 × ℕ × ℕ)

@@ -1,3 +1,3 @@
-pub mod SameLists
+pub mod LetterListLaws
 pub mod PairLaws
 pub mod Laws

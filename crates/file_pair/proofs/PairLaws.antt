@@ -6,7 +6,10 @@ use Prim.Native.Nat.{ℕ}
 use native.Mathlib.Omega.{arith}
 use borrow.Author.Tests.{le-ltb, lt-ltb, ltb-false}
 use lib.Dec.{eqb, ltb}
+use Rattle.automata.specs.Letters.{keys}
 use Rattle.automata.specs.Lists.{sameBy}
+use Rattle.automata.specs.Words.{sameLetters}
+use Rattle.automata.proofs.Laws.{sameLetters-iff}
 use Rattle.file_fields.specs.declared.Counts.{Counts}
 use Rattle.file_fields.specs.declared.Reading.the-variants.{Valid, Refused as Faulty}
 use Rattle.file_fields.specs.Parts.{countsOf, letterBytes, numberOf}
@@ -17,7 +20,6 @@ use Rattle.file_laws.proofs.Laws.{file-seen, has-fault, no-fault, valid-alphabe
 use Rattle.file_pair.specs.declared.Files.{Files}
 use Rattle.file_pair.specs.declared.Files.the-variants.{Both, Fault}
 use Rattle.file_pair.specs.Pair.{Joinable, filesOf, pairRefusals}
-use Rattle.file_pair.proofs.SameLists.{same-lists}
 
 module _ (s t : List ℕ) where
   -- the first file at fault; the second; neither
@@ -29,18 +31,18 @@ module _ (s t : List ℕ) where
   unfolding filesOf
   second-fault {n = n} p q = rw (le-ltb 0 (faultOf s) (omega (arith, ap numberOf p)), lt-ltb 0 (faultOf t) (has-fault t n q)) (ap (λ (m : ℕ). Fault m 2) (ap numberOf q))
 
-  pub valid-files : {a b : Counts} → readingOf s ≡ Valid a → readingOf t ≡ Valid b → filesOf s t ≡ cond (not (sameBy eqb (letterBytes a s) (letterBytes b t))) (Fault 10 0) (Both a b)
+  pub valid-files : {a b : Counts} → readingOf s ≡ Valid a → readingOf t ≡ Valid b → filesOf s t ≡ cond (not (sameBy eqb (keys (letterBytes a s)) (keys (letterBytes b t)))) (Fault 10 0) (Both a b)
   unfolding filesOf
   valid-files {a} {b} p q =
       rw (le-ltb 0 (faultOf s) (omega (arith, ap numberOf p)), le-ltb 0 (faultOf t) (omega (arith, ap numberOf q)), valid-alphabet s a p, valid-alphabet t b q)
-      (ap (cond (not (sameBy eqb (letterBytes a s) (letterBytes b t))) (Fault 10 0)) (ap₂ Both (file-seen s a p .counts) (file-seen t b q .counts)))
+      (ap (cond (not (sameBy eqb (keys (letterBytes a s)) (keys (letterBytes b t)))) (Fault 10 0)) (ap₂ Both (file-seen s a p .counts) (file-seen t b q .counts)))
 
   -- files that are to be joined
   pub both-joinable : {a b : Counts} → filesOf s t ≡ Both a b → Joinable a b s t
   unfolding filesOf
-  both-joinable {a} {b} e = go (ltb 0 (faultOf s)) refl (ltb 0 (faultOf t)) refl (sameBy eqb (automatonOf s .alphabet) (automatonOf t .alphabet)) refl e
+  both-joinable {a} {b} e = go (ltb 0 (faultOf s)) refl (ltb 0 (faultOf t)) refl (sameLetters (automatonOf s) (automatonOf t)) refl e
     where
-      go : (u : Bool) → ltb 0 (faultOf s) ≡ u → (v : Bool) → ltb 0 (faultOf t) ≡ v → (w : Bool) → sameBy eqb (automatonOf s .alphabet) (automatonOf t .alphabet) ≡ w
+      go : (u : Bool) → ltb 0 (faultOf s) ≡ u → (v : Bool) → ltb 0 (faultOf t) ≡ v → (w : Bool) → sameLetters (automatonOf s) (automatonOf t) ≡ w
           → cond u (Fault (faultOf s) 1) (cond v (Fault (faultOf t) 2) (cond (not w) (Fault 10 0) (Both (countsOf s) (countsOf t)))) ≡ Both a b → Joinable a b s t
       go true p v q w r e = let z : _≡_ {A = ℕ} 0 1 = cc in absurd (omega arith)
       go false p true q w r e = let z : _≡_ {A = ℕ} 0 1 = cc in absurd (omega arith)
@@ -53,7 +55,7 @@ module _ (s t : List ℕ) where
           record {
             first = f .1 ∙ ap Valid (sym (file-seen s (f .0) (f .1) .counts) ∙ ca);
             second = g .1 ∙ ap Valid (sym (file-seen t (g .0) (g .1) .counts) ∙ db);
-            shared = sym (same-lists (automatonOf s .alphabet) (automatonOf t .alphabet) (rw r tt));
+            shared = sameLetters-iff (automatonOf s) (automatonOf t) .0 (rw r tt);
           }
 
   -- ---- a call's answer, by what the files are: their refusal, or what the refusals that are left say

@@ -2,8 +2,10 @@
 // refusals). What joins and compares them goes on from here.
 ghost use mathlib.Core.Path.{_≡_};
 ghost use lib.Dec.{eqb};
+ghost use Rattle.automata.specs.Letters.{keys, sameKey};
 ghost use Rattle.automata.specs.Lists.{sameBy};
 ghost use Rattle.file_pair.specs.Pair.{filesOf};
+use file_fields::letters::key_of;
 use format::Counts;
 use format::Reading;
 use format::fields::flags_at;
@@ -14,16 +16,28 @@ pub enum Files {
     Fault(u8, u8),
 }
 
-// Whether two lists are the same bytes. Refuses nothing. Cost: the bytes up to the first that differs.
-pub fn same_bytes(left: &[u8], right: &[u8]) -> bool
-    ensures { λ r. ⌜ r ≡ sameBy eqb (now (left .entry)) (now (right .entry)) ⌝ }
+// Whether two bytes stand for one letter. Cost: constant.
+fn is_same_letter(one: u8, other: u8) -> bool
+    ensures { λ r. ⌜ r ≡ sameKey one other ⌝ }
+{
+    let left = key_of(one);
+    let right = key_of(other);
+    left == right
+}
+
+// Whether two lists are of the same letters, place by place (document 02, change 4). Refuses nothing. Cost: the bytes up to the first that
+// stands for another letter; keys are found only where bytes differ.
+fn same_letters(left: &[u8], right: &[u8]) -> bool
+    ensures { λ r. ⌜ r ≡ sameBy eqb (keys (now (left .entry))) (keys (now (right .entry))) ⌝ }
 {
     if left.len() != right.len() {
         return false;
     }
     let mut i: usize = 0;
     while i < left.len() {
-        if left[i] != right[i] {
+        let one = left[i];
+        let other = right[i];
+        if one != other && !is_same_letter(one, other) {
             return false;
         }
         i += 1;
@@ -31,7 +45,7 @@ pub fn same_bytes(left: &[u8], right: &[u8]) -> bool
     true
 }
 
-// The first file's faults, the second's, then 10: the letter lists differ. Cost: one pass over each file.
+// The first file's faults, the second's, then 10: the letter lists do not agree. Cost: what reading each file takes.
 pub fn read_files(first: &[u8], second: &[u8]) -> Files
     ensures { λ r. ⌜ r ≡ filesOf (now (first .entry)) (now (second .entry)) ⌝ }
 {
@@ -45,7 +59,7 @@ pub fn read_files(first: &[u8], second: &[u8]) -> Files
     };
     let end = flags_at(a);
     let other = flags_at(b);
-    if !same_bytes(&first[12..end], &second[12..other]) {
+    if !same_letters(&first[12..end], &second[12..other]) {
         return Files::Fault(10, 0);
     }
     Files::Both(a, b)

@@ -20,7 +20,8 @@ pub record Ranges (c : Counts) : Type 0 where
   pub symbols : c .symbols ≤ 16
   pub arcs : c .arcs ≤ 2048
 
--- an automaton within the limits: its letters' bytes ascend strictly, and each arc has 1 to 8 operations
+-- an automaton within the limits: its letters' bytes ascend strictly, no two of them for one letter (well-formed), and each arc has 1 to 8
+-- operations
 pub record Fits (x : Automaton) : Type 0 where
   pub well-formed : WellFormed x
   pub ranges : Ranges (sizes x)

@@ -1,14 +1,15 @@
 -- Reading: what reading a file answers, its counts or the number and the place of its first fault.
--- Renders document 01, 'The book file' and 'Refused because of what was handed in', 1 to 9: the tests of a file in the order of
--- reading: left to right, each part there whole before any of it is looked at.
+-- Renders document 01, 'The book file' and 'Refused because of what was handed in', 1 to 9, with document 02, change 4: the tests of a
+-- file in the order of reading: left to right, each part there whole before any of it is looked at.
 use mathlib.Core.Bool.{Bool}
 use mathlib.Core.List.{List, _++_}
 use Prim.Native.Nat.{ℕ}
 use lib.ListN.{drop}
+use Rattle.automata.specs.Letters.{unlike}
 use Rattle.file_fields.specs.declared.Counts.{Counts}
 use Rattle.file_fields.specs.declared.Reading.{Reading}
 use Rattle.file_fields.specs.declared.Reading.the-variants.{Valid, Refused}
-use Rattle.file_fields.specs.Parts.{headerTests, countsOf, letterTests, flagTests, arcsTests, firstArc, ascending, ascendingFront, flags, flagsFront, firstFault}
+use Rattle.file_fields.specs.Parts.{headerTests, countsOf, letterTests, flagTests, arcsTests, firstArc, ascending, ascendingFront, unlikeFront, flags, flagsFront, firstFault}
 
 -- what follows the header
 abbrev pub bodyTests : Counts → List ℕ → List (Bool × ℕ × ℕ)
@@ -20,7 +21,7 @@ fileTests s = headerTests s ++ bodyTests (countsOf s) s
 
 -- the counts of a file all of whose tests hold, else the number and the place of the first that fails
 unfoldable pub readingOf : List ℕ → Reading
-unfolding ascending ascendingFront flags flagsFront arcsTests firstFault
+unfolding ascending ascendingFront unlike unlikeFront flags flagsFront arcsTests firstFault
 readingOf s = firstFault (fileTests s) (countsOf s)
 
 -- an answer as document 01 tells it: the number of the refusal and the automaton at fault, 1 in a call with one file, each 0 where

@@ -1,42 +1,16 @@
 // What follows the header: letters, final flags, arcs.
 ghost use mathlib.Core.Path.{_≡_};
 ghost use Prim.Native.Nat.{_≤_};
-ghost use lib.ListN.{length};
-ghost use Rattle.file_fields.specs.Parts.{ascending, ascendingFront, flagsFront, firstFault};
+ghost use Rattle.file_fields.specs.Parts.{flagsFront, firstFault};
 ghost use Rattle.format.specs.Reading.{bodyTests};
+use super::letter_list::ascending_front;
+use super::letter_list::is_ascending;
+use super::letter_list::unlike_front;
 use file_arcs::read_arcs;
 use file_fields::Counts;
 use file_fields::Reading;
 use file_fields::fields::first_arc;
 use file_fields::fields::flags_at;
-
-// Whether the bytes ascend strictly. Cost: one pass, up to the first that is not above the one before it.
-fn is_ascending(s: &[u8]) -> bool
-    ensures { λ r. ⌜ r ≡ ascending (now (s .entry)) ⌝ }
-{
-    let mut i: usize = 1;
-    while i < s.len() {
-        if s[i] <= s[i - 1] {
-            return false;
-        }
-        i += 1;
-    }
-    true
-}
-
-// How many bytes at the front ascend strictly. Called only where not all do. Cost: one pass over them.
-fn ascending_front(s: &[u8]) -> usize
-    ensures { λ r. ⌜ (r ≡ ascendingFront (now (s .entry))) × (r ≤ length (now (s .entry))) ⌝ }
-{
-    let mut i: usize = 1;
-    while i < s.len() {
-        if s[i - 1] >= s[i] {
-            return i;
-        }
-        i += 1;
-    }
-    s.len()
-}
 
 // How many bytes at the front are 00 or 01. Cost: one pass over them.
 fn flags_front(s: &[u8]) -> usize
@@ -53,7 +27,7 @@ fn flags_front(s: &[u8]) -> usize
 }
 
 // The counts, or the first fault after the header.
-// Cost: one pass over the bytes, and a second one over the letters or the arcs where one of these has the fault.
+// Cost: one pass over the bytes, what unlike_front takes, and a second pass over the letters or the arcs where one of these has the fault.
 pub fn read_body(c: Counts, file: &[u8]) -> Reading
     requires { ⌜ (c .letters ≤ 64) × (c .states ≤ 256) ⌝ }
     ensures { λ r. ⌜ r ≡ firstFault (bodyTests c (now (file .entry))) c ⌝ }
@@ -64,6 +38,10 @@ pub fn read_body(c: Counts, file: &[u8]) -> Reading
     }
     if !is_ascending(&file[12..flags]) {
         return Reading::Refused(5, 12 + ascending_front(&file[12..flags]));
+    }
+    let unlike = unlike_front(&file[12..flags]);
+    if unlike < c.letters {
+        return Reading::Refused(5, 12 + unlike);
     }
     let arcs = first_arc(c);
     if file.len() < arcs {

@@ -10,7 +10,7 @@ use lib.ListN.{drop, length, take}
 use lib.Seq.{drop-at, take-at}
 use Rattle.automata.specs.Automaton.{Automaton, WellFormed}
 use Rattle.automata.specs.Joins.{closure}
-use Rattle.automata.specs.Words.{Language}
+use Rattle.automata.specs.Words.{Language, SameLetters}
 use Rattle.automata.proofs.Laws.{closing}
 use Rattle.format.specs.Decoding.{automatonOf}
 use Rattle.format.specs.Encoding.{bytesOf}
@@ -32,9 +32,9 @@ beyond-decided : (x : Automaton) → Decides (beyond x, 11, 0) (Beyond x, 11, 0)
 beyond-decided x = decided (beyond x) 11 0 (beyond-iff x) (λ _. omega arith)
 
 -- its file, at the front of the output
-stands : (x : Automaton) (Words : List ℕ → Type 0) (old : List ℕ) → ((word : List ℕ) → Language x word ↔ Words word) → Fits x
-    → FileOf x Words (length (bytesOf x)) old (bytesOf x ++ drop (length (bytesOf x)) old)
-stands x Words old accepts fits =
+stands : (x : Automaton) (listed : List ℕ) (Words : List ℕ → Type 0) (old : List ℕ) → x .alphabet ≡ listed → ((word : List ℕ) → Language x word ↔ Words word) → Fits x
+    → FileOf x listed Words (length (bytesOf x)) old (bytesOf x ++ drop (length (bytesOf x)) old)
+stands x listed Words old lists accepts fits =
     let file = bytesOf x in
     let front : take (length file) (file ++ drop (length file) old) ≡ file = take-at file (drop (length file) old) (length file) refl in
     let back = round-trip x fits in
@@ -43,21 +43,22 @@ stands x Words old accepts fits =
       there = ap length front;
       valid = ap faultOf front ∙ ap numberOf (back .0);
       automaton = same;
+      letters = ap (λ (y : Automaton). y .alphabet) same ∙ lists;
       accepts = rw same accepts;
       behind = drop-at file (drop (length file) old) (length file) refl;
     }
 
 -- ---- THE GENERAL PROMISE, of a call with the refusals' conditions cs: its answer r and what it leaves in the output keep it
-module _ (cs : List (Type 0 × ℕ × ℕ)) (Ready : Type 0) (x : Automaton) (Words : List ℕ → Type 0) (old : List ℕ) where
+module _ (cs : List (Type 0 × ℕ × ℕ)) (Ready : Type 0) (x : Automaton) (listed : List ℕ) (Words : List ℕ → Type 0) (old : List ℕ) where
   -- nothing is to be refused
   abbrev Answered : Type 0
   Answered = Ready × (¬ Beyond x) × (length (bytesOf x) ≤ length old)
 
   -- the answer r and the output that it says
   abbrev Keeps : Written → Type 0
-  Keeps r = Promised cs Ready x Words old (outputOf r (bytesOf x) old) (told r)
+  Keeps r = Promised cs Ready x listed Words old (outputOf r (bytesOf x) old) (told r)
 
-  module _ (none : NoneHolds cs ↔ Answered) (file : Answered → FileOf x Words (length (bytesOf x)) old (bytesOf x ++ drop (length (bytesOf x)) old)) where
+  module _ (none : NoneHolds cs ↔ Answered) (file : Answered → FileOf x listed Words (length (bytesOf x)) old (bytesOf x ++ drop (length (bytesOf x)) old)) where
     -- a refusal; the joined file; and whichever of the two the tests say
     refused : (n b : ℕ) → 0 < n → FirstHolds cs n b → Keeps (Refused n b)
     refused n b pos f = record {
@@ -85,8 +86,9 @@ module _ (cs : List (Type 0 × ℕ × ℕ)) (Ready : Type 0) (x : Automaton) (Wo
 
 -- ---- two files
 module _ (join : Automaton → Automaton → Automaton) (Words : (P Q : List ℕ → Type 0) → List ℕ → Type 0)
-    (fits : (a b : Automaton) → Fits a → Fits b → b .alphabet ≡ a .alphabet → beyond (join a b) ≡ false → Fits (join a b))
-    (accepts : (a b : Automaton) → WellFormed a → WellFormed b → b .alphabet ≡ a .alphabet → (word : List ℕ) → Language (join a b) word ↔ Words (Language a) (Language b) word)
+    (fits : (a b : Automaton) → Fits a → Fits b → SameLetters a b → beyond (join a b) ≡ false → Fits (join a b))
+    (lists : (a b : Automaton) → join a b .alphabet ≡ a .alphabet)
+    (accepts : (a b : Automaton) → WellFormed a → WellFormed b → SameLetters a b → (word : List ℕ) → Language (join a b) word ↔ Words (Language a) (Language b) word)
     (first second old : List ℕ) where
   abbrev a : Automaton
   a = automatonOf first
@@ -114,23 +116,23 @@ module _ (join : Automaton → Automaton → Automaton) (Words : (P Q : List ℕ
     λ h.
         let u = at-least 0 (faultOf first) (h .0) in
         let v = at-least 0 (faultOf second) (h .1 .0) in
-        (record { first-valid = omega arith; second-valid = omega arith; same-letters = sym (same-letters a b (h .1 .1 .0)) }, h .1 .1 .1 .0, at-least (length old) (length (bytesOf x)) (h .1 .1 .1 .1 .0)),
-    λ p. (λ h. omega (arith, p .0 .first-valid), (λ h. omega (arith, p .0 .second-valid), (λ h. h (sym (p .0 .same-letters)), (p .1, (λ h. omega (arith, p .2), tt))))),
+        (record { first-valid = omega arith; second-valid = omega arith; same-letters = same-letters a b (h .1 .1 .0) }, h .1 .1 .1 .0, at-least (length old) (length (bytesOf x)) (h .1 .1 .1 .1 .0)),
+    λ p. (λ h. omega (arith, p .0 .first-valid), (λ h. omega (arith, p .0 .second-valid), (λ h. h (p .0 .same-letters), (p .1, (λ h. omega (arith, p .2), tt))))),
   )
 
   -- the joined file
-  file : (ValidPair first second × (¬ Beyond x) × (length (bytesOf x) ≤ length old)) → FileOf x (Words (Language a) (Language b)) (length (bytesOf x)) old (bytesOf x ++ drop (length (bytesOf x)) old)
+  file : (ValidPair first second × (¬ Beyond x) × (length (bytesOf x) ≤ length old)) → FileOf x (a .alphabet) (Words (Language a) (Language b)) (length (bytesOf x)) old (bytesOf x ++ drop (length (bytesOf x)) old)
   file p =
       let u = no-fault first (p .0 .first-valid) in
       let v = no-fault second (p .0 .second-valid) in
       let f = valid-fits first (u .0) (u .1) in
       let g = valid-fits second (v .0) (v .1) in
       let l = p .0 .same-letters in
-      stands x (Words (Language a) (Language b)) old (accepts a b (f .well-formed) (g .well-formed) l) (fits a b f g l (not-beyond x (p .1)))
+      stands x (a .alphabet) (Words (Language a) (Language b)) old (lists a b) (accepts a b (f .well-formed) (g .well-formed) l) (fits a b f g l (not-beyond x (p .1)))
 
   pub two-joined : let r = joinedOf join first second (length old) in JoinPromised join Words first second old (outputOf r (bytesOf (join (automatonOf first) (automatonOf second))) old) (told r)
   unfolding joinedOf
-  two-joined = kept cs (ValidPair first second) x (Words (Language a) (Language b)) old none file (joinedOf join first second (length old)) (refused-or-not Refused (Bytes (length (bytesOf x))) (joinRefusals first second x (length old)) cs tests-decide)
+  two-joined = kept cs (ValidPair first second) x (a .alphabet) (Words (Language a) (Language b)) old none file (joinedOf join first second (length old)) (refused-or-not Refused (Bytes (length (bytesOf x))) (joinRefusals first second x (length old)) cs tests-decide)
 
 -- ---- one file
 module _ (file old : List ℕ) where
@@ -152,13 +154,17 @@ module _ (file old : List ℕ) where
     λ p. (λ h. omega (arith, p .0), (p .1, (λ h. omega (arith, p .2), tt))),
   )
 
+  closed-lists : closed .alphabet ≡ automatonOf file .alphabet
+  unfolding closure
+  closed-lists = refl
+
   pub one-closed : let r = closedOf file (length old) in ClosurePromised file old (outputOf r (bytesOf (closure (automatonOf file))) old) (told r)
   unfolding closedOf
   one-closed =
-      kept conditions (faultOf file ≡ 0) closed _ old none-holds
+      kept conditions (faultOf file ≡ 0) closed (automatonOf file .alphabet) _ old none-holds
       (λ p.
       let v = no-fault file (p .0) in
       let f = valid-fits file (v .0) (v .1) in
-      stands closed _ old (closing (automatonOf file) (f .well-formed)) (closure-fits (automatonOf file) f (not-beyond closed (p .1))))
+      stands closed (automatonOf file .alphabet) _ old closed-lists (closing (automatonOf file) (f .well-formed)) (closure-fits (automatonOf file) f (not-beyond closed (p .1))))
       (closedOf file (length old))
       (refused-or-not Refused (Bytes (length (bytesOf closed))) (closeRefusals file (length old)) conditions close-decide)

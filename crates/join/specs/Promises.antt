@@ -1,5 +1,6 @@
 -- Promises: what is promised of a call that joins files, told of the bytes lent and the bytes left (document 01, 'Joining books' and
--- both 'Refused' sections). A word is a list of bytes of any length; that it is accepted is document 003's (automata's specs/Words.antt).
+-- both 'Refused' sections; which letter lists are the same, document 02, change 4). A word is a list of bytes of any length; that it is
+-- accepted is document 003's (automata's specs/Words.antt).
 use mathlib.Core.Path.{_≡_}
 use mathlib.Core.Logic.{_↔_, _≢_}
 use mathlib.Core.List.{List, List·Memᴰ, [], _∷_}
@@ -8,13 +9,14 @@ use lib.ListN.{drop, length, take}
 use Rattle.automata.specs.Automaton.{Arc, Automaton, states}
 use Rattle.automata.specs.Joins.{closure}
 use Rattle.automata.specs.Languages.{Star}
-use Rattle.automata.specs.Words.{Language}
+use Rattle.automata.specs.Words.{Language, SameLetters}
 use Rattle.format.specs.Decoding.{automatonOf}
 use Rattle.format.specs.Encoding.{bytesOf}
 use Rattle.format.specs.Refusals.{FirstHolds, faultOf}
 use Rattle.file_writing.specs.Answers.{Told}
 
--- ---- the joined automaton x, the words that it is to accept, and the output before the call and after it
+-- ---- the joined automaton x, the bytes that it is to list as its letters, the words that it is to accept, and the output before the call
+-- and after it
 -- beyond a limit on s, n, m or p
 pub data Beyond (x : Automaton) : Type 0 where
   many-states : 256 < states x → Beyond x
@@ -22,11 +24,13 @@ pub data Beyond (x : Automaton) : Type 0 where
   many-arcs : 2048 < length (x .arcs) → Beyond x
   many-operations : (a : Arc) → List·Memᴰ a (x .arcs) → 8 < length (a .ops) → Beyond x
 
--- the first n bytes of the output are a valid file of x, which accepts exactly the words named; those behind are as lent
-pub record FileOf (x : Automaton) (Words : List ℕ → Type 0) (n : ℕ) (old out : List ℕ) : Type 0 where
+-- the first n bytes of the output are a valid file of x, which lists these bytes and accepts exactly the words named; those behind are as
+-- lent
+pub record FileOf (x : Automaton) (listed : List ℕ) (Words : List ℕ → Type 0) (n : ℕ) (old out : List ℕ) : Type 0 where
   pub there : length (take n out) ≡ n
   pub valid : faultOf (take n out) ≡ 0
   pub automaton : automatonOf (take n out) ≡ x
+  pub letters : automatonOf (take n out) .alphabet ≡ listed
   pub accepts : (word : List ℕ) → Language (automatonOf (take n out)) word ↔ Words word
   pub behind : drop n out ≡ drop n old
 
@@ -36,7 +40,7 @@ abbrev pub joinConditions : (first second : List ℕ) → Automaton → (space :
 joinConditions first second x space =
     (0 < faultOf first, faultOf first, 1)
     ∷ (0 < faultOf second, faultOf second, 2)
-    ∷ (automatonOf first .alphabet ≢ automatonOf second .alphabet, 10, 0)
+    ∷ (¬ SameLetters (automatonOf first) (automatonOf second), 10, 0)
     ∷ (Beyond x, 11, 0)
     ∷ (space < length (bytesOf x), 25, 0)
     ∷ []
@@ -50,11 +54,11 @@ closeConditions file x space =
     ∷ []
 
 -- ---- what is promised of a call with these conditions; `Ready`: no file is at fault, and 10 does not hold
--- the joined automaton is x, the words that it is to accept are `Words`, the output was `old` and is `out`
-pub record Promised (conditions : List (Type 0 × ℕ × ℕ)) (Ready : Type 0) (x : Automaton) (Words : List ℕ → Type 0) (old out : List ℕ) (t : Told) : Type 0 where
+-- the joined automaton is x, it is to list the bytes `listed` and to accept the words `Words`, the output was `old` and is `out`
+pub record Promised (conditions : List (Type 0 × ℕ × ℕ)) (Ready : Type 0) (x : Automaton) (listed : List ℕ) (Words : List ℕ → Type 0) (old out : List ℕ) (t : Told) : Type 0 where
   -- where nothing is refused, the file is there, and its length is told
   pub size : t .number ≡ 0 → t .size ≡ length (bytesOf x)
-  pub file : t .number ≡ 0 → FileOf x Words (t .size) old out
+  pub file : t .number ≡ 0 → FileOf x listed Words (t .size) old out
   -- a refusal leaves the output as it was lent, and tells no length
   pub unchanged : t .number ≢ 0 → out ≡ old
   pub sizeless : t .number ≢ 0 → t .size ≡ 0
@@ -67,16 +71,17 @@ pub record Promised (conditions : List (Type 0 × ℕ × ℕ)) (Ready : Type 0) 
 pub record ValidPair (first second : List ℕ) : Type 0 where
   pub first-valid : faultOf first ≡ 0
   pub second-valid : faultOf second ≡ 0
-  pub same-letters : automatonOf second .alphabet ≡ automatonOf first .alphabet
+  pub same-letters : SameLetters (automatonOf first) (automatonOf second)
 
--- of a call that joins two files by `join`, which is to accept the words `Words` of their languages
+-- of a call that joins two files by `join`, which is to list the first file's bytes (document 02, change 4) and to accept the words `Words`
+-- of their languages
 abbrev pub JoinPromised : (join : Automaton → Automaton → Automaton) (Words : (P Q : List ℕ → Type 0) → List ℕ → Type 0) (first second old out : List ℕ) → Told → Type 0
 JoinPromised join Words first second old out t =
     let x = join (automatonOf first) (automatonOf second) in
-    Promised (joinConditions first second x (length old)) (ValidPair first second) x (Words (Language (automatonOf first)) (Language (automatonOf second))) old out t
+    Promised (joinConditions first second x (length old)) (ValidPair first second) x (automatonOf first .alphabet) (Words (Language (automatonOf first)) (Language (automatonOf second))) old out t
 
--- of the call that closes one file: the result accepts the finite sequences of its words
+-- of the call that closes one file: the result lists its bytes, and accepts the finite sequences of its words
 abbrev pub ClosurePromised : (file old out : List ℕ) → Told → Type 0
 ClosurePromised file old out t =
     let x = closure (automatonOf file) in
-    Promised (closeConditions file x (length old)) (faultOf file ≡ 0) x (Star (Language (automatonOf file))) old out t
+    Promised (closeConditions file x (length old)) (faultOf file ≡ 0) x (automatonOf file .alphabet) (Star (Language (automatonOf file))) old out t

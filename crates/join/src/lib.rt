@@ -1,6 +1,7 @@
 // join: union, concatenation, intersection and closure of automata in files (document 01, 'Joining books').
 // Each call answers the length of the joined file, or a refusal's number and the automaton at fault. A refusal leaves the
-// output as it was lent; else the joined file stands at its front, and the bytes behind it are as they were lent.
+// output as it was lent; else the joined file stands at its front, and the bytes behind it are as they were lent. The joined file lists the
+// first file's letter bytes (document 02, change 4).
 ghost use mathlib.Core.Path.{_≡_};
 ghost use lib.ListN.{length};
 ghost use Rattle.automata.specs.Joins.{union, concatenation, intersection, closure};
@@ -14,9 +15,9 @@ use file_writing::Written;
 use format::Reading;
 
 // Writes an automaton that accepts the words of either: a new state 0 with an empty move into each.
-// Refuses, in this order: 1 to 9, the first file's fault; 1 to 9, the second's; 10, the letter lists differ; 11, the joined
+// Refuses, in this order: 1 to 9, the first file's fault; 1 to 9, the second's; 10, the letter lists do not agree; 11, the joined
 // automaton beyond a limit on states or arcs; 25, the output shorter than the result.
-// Cost: one pass over each file to read it, and one to write it.
+// Cost: what reading each file takes, and one pass to write it.
 pub fn union(first: &[u8], second: &[u8], out: &mut [u8]) -> Written
     ensures answer { λ r. ⌜ r ≡ joinedOf union (now (first .entry)) (now (second .entry)) (length (now (out .entry))) ⌝ }
     ensures output { λ r. ⌜ now (out .exit) ≡ outputOf r (bytesOf (union (automatonOf (now (first .entry))) (automatonOf (now (second .entry))))) (now (out .entry)) ⌝ }
@@ -30,9 +31,9 @@ pub fn union(first: &[u8], second: &[u8], out: &mut [u8]) -> Written
 
 // Writes an automaton that accepts the words of the first, each followed by a word of the second: from each final state of the
 // first an empty move to the initial state of the second, which has registers of its own.
-// Refuses, in this order: 1 to 9, the first file's fault; 1 to 9, the second's; 10, the letter lists differ; 11, the joined
+// Refuses, in this order: 1 to 9, the first file's fault; 1 to 9, the second's; 10, the letter lists do not agree; 11, the joined
 // automaton beyond a limit on states, registers or arcs; 25, the output shorter than the result.
-// Cost: one pass over each file to read it, and one to write it.
+// Cost: what reading each file takes, and one pass to write it.
 pub fn concatenate(first: &[u8], second: &[u8], out: &mut [u8]) -> Written
     ensures answer { λ r. ⌜ r ≡ joinedOf concatenation (now (first .entry)) (now (second .entry)) (length (now (out .entry))) ⌝ }
     ensures output { λ r. ⌜ now (out .exit) ≡ outputOf r (bytesOf (concatenation (automatonOf (now (first .entry))) (automatonOf (now (second .entry))))) (now (out .entry)) ⌝ }
@@ -45,9 +46,9 @@ pub fn concatenate(first: &[u8], second: &[u8], out: &mut [u8]) -> Written
 }
 
 // Writes an automaton that accepts the words of both: its states are the pairs of theirs, and it has the registers of both.
-// Refuses, in this order: 1 to 9, the first file's fault; 1 to 9, the second's; 10, the letter lists differ; 11, the joined
+// Refuses, in this order: 1 to 9, the first file's fault; 1 to 9, the second's; 10, the letter lists do not agree; 11, the joined
 // automaton beyond a limit on states, registers, arcs or operations of an arc; 25, the output shorter than the result.
-// Cost: one pass over each file to read it, one over the pairs of arcs to count (none where states or registers are too many), one to write.
+// Cost: what reading each file takes, one pass over the pairs of arcs to count (none where states or registers are too many), one to write.
 pub fn intersect(first: &[u8], second: &[u8], out: &mut [u8]) -> Written
     ensures answer { λ r. ⌜ r ≡ joinedOf intersection (now (first .entry)) (now (second .entry)) (length (now (out .entry))) ⌝ }
     ensures output { λ r. ⌜ now (out .exit) ≡ outputOf r (bytesOf (intersection (automatonOf (now (first .entry))) (automatonOf (now (second .entry))))) (now (out .entry)) ⌝ }
@@ -62,7 +63,7 @@ pub fn intersect(first: &[u8], second: &[u8], out: &mut [u8]) -> Written
 // Writes an automaton that accepts the finite sequences of the file's words: a new state 0, initial and final, an empty move
 // to the old initial state, and from each final state an empty move back to it, which clears the registers.
 // Refuses, in this order: 1 to 9, the file's fault; 11, the joined automaton beyond a limit on states or arcs; 25, the output
-// shorter than the result. Cost: one pass over the file to read it, and one to write it.
+// shorter than the result. Cost: what reading the file takes, and one pass to write it.
 pub fn close(file: &[u8], out: &mut [u8]) -> Written
     ensures answer { λ r. ⌜ r ≡ closedOf (now (file .entry)) (length (now (out .entry))) ⌝ }
     ensures output { λ r. ⌜ now (out .exit) ≡ outputOf r (bytesOf (closure (automatonOf (now (file .entry))))) (now (out .entry)) ⌝ }

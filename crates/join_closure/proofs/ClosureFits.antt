@@ -40,4 +40,4 @@ module _ (a : Automaton) (fa : Fits a) where
   unfolding closure
   closure-fits e =
       let ra = fa .ranges in
-      joined-fits (closure a) (ra .letters) (fa .ascends) (omega arith) (ra .some-register) (ra .some-symbol) (ra .symbols) (within (closure a) e .0) closure-arcs
+      joined-fits (closure a) (ra .letters) (fa .ascends) (fa .well-formed .letters-apart) (omega arith) (ra .some-register) (ra .some-symbol) (ra .symbols) (within (closure a) e .0) closure-arcs

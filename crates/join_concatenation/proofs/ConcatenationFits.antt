@@ -7,7 +7,8 @@ use native.Mathlib.Omega.{arith}
 use lib.ListN.{length}
 use Rattle.automata.specs.Automaton.{Automaton}
 use Rattle.automata.specs.Joins.{finalStates, concatenation, emptyMove, movedArc}
-use Rattle.automata.proofs.Laws.{at, each-join}
+use Rattle.automata.specs.Words.{SameLetters}
+use Rattle.automata.proofs.Laws.{at, each-join, same-many}
 use Rattle.file_fields.specs.declared.Counts.{Counts}
 use Rattle.format.specs.Limits.{Fits}
 use Rattle.format.specs.Encoding.{sizes}
@@ -17,7 +18,7 @@ use Rattle.join_parts.specs.Joining.{beyond}
 use Rattle.join_parts.proofs.Laws.{FewOps, Room, arcs-moved, empty-moves-fit, few-ops, joined-fits, unmoved, within}
 use Rattle.join_concatenation.proofs.ConcatenationBytes.{concatenation-counts}
 
-module _ (a b : Automaton) (fa : Fits a) (fb : Fits b) (shared : b .alphabet ≡ a .alphabet) where
+module _ (a b : Automaton) (fa : Fits a) (fb : Fits b) (shared : SameLetters a b) where
   abbrev ca : Counts
   ca = sizes a
 
@@ -25,7 +26,7 @@ module _ (a b : Automaton) (fa : Fits a) (fb : Fits b) (shared : b .alphabet ≡
   cb = sizes b
 
   same-letters : cb .letters ≡ ca .letters
-  same-letters = ap length shared
+  same-letters = same-many a b shared
 
   concatenation-room-left : Room 0 ca (sizes (concatenation a b))
   unfolding concatenation
@@ -61,5 +62,5 @@ module _ (a b : Automaton) (fa : Fits a) (fb : Fits b) (shared : b .alphabet ≡
   concatenation-fits e =
       let ra = fa .ranges in
       let rb = fb .ranges in
-      joined-fits (concatenation a b) (ra .letters) (fa .ascends) (omega (arith, concatenation-states, ra .some-state)) (omega (arith, ra .some-register, rb .some-register)) (omega (arith, ra .some-symbol))
+      joined-fits (concatenation a b) (ra .letters) (fa .ascends) (fa .well-formed .letters-apart) (omega (arith, concatenation-states, ra .some-state)) (omega (arith, ra .some-register, rb .some-register)) (omega (arith, ra .some-symbol))
       (omega (arith, ra .symbols, rb .symbols)) (within (concatenation a b) e .0) concatenation-arcs

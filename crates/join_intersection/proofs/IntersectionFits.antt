@@ -6,11 +6,11 @@ use mathlib.Core.Option.{none}
 use Prim.Native.Nat.{ℕ, _+_, _-_, _*_, _<_}
 use native.Mathlib.Nat.{one-le-mul}
 use native.Mathlib.Omega.{arith}
-use lib.ListN.{length}
 use Rattle.automata.specs.Automaton.{Arc, Automaton}
 use Rattle.automata.specs.Joins.{alike, arcBoth, arcFrom, arcLeft, arcRight, bothArcs, intersection, isEmptyMove, leftArcs, movedOp, rightArcs}
 use Rattle.automata.specs.Lists.{Each, countFrom, keep}
-use Rattle.automata.proofs.Laws.{countFrom-iff, each-join, mem-each}
+use Rattle.automata.specs.Words.{SameLetters}
+use Rattle.automata.proofs.Laws.{countFrom-iff, each-join, mem-each, same-many}
 use Rattle.file_fields.specs.declared.Counts.{Counts}
 use Rattle.format.specs.Encoding.{sizes}
 use Rattle.format.specs.Limits.{Fits}
@@ -40,7 +40,7 @@ silent c x h = record {
   ops = h .ops;
 }
 
-module _ (a b : Automaton) (fa : Fits a) (fb : Fits b) (shared : b .alphabet ≡ a .alphabet) where
+module _ (a b : Automaton) (fa : Fits a) (fb : Fits b) (shared : SameLetters a b) where
   abbrev ca : Counts
   ca = sizes a
 
@@ -66,7 +66,7 @@ module _ (a b : Automaton) (fa : Fits a) (fb : Fits b) (shared : b .alphabet ≡
 
   room-right : Room k cb d
   unfolding intersection
-  room-right = record { registers = omega (arith, fa .ranges .some-register); symbols = omega arith; letters = omega (arith, ap length shared) }
+  room-right = record { registers = omega (arith, fa .ranges .some-register); symbols = omega arith; letters = omega (arith, same-many a b shared) }
 
   pair-small : (i j : ℕ) → i < ca .states → j < cb .states → i * cb .states + j < d .states
   pair-small i j p q = omega (arith, intersection-states, pair-below i (ca .states) j (cb .states) p q)
@@ -146,4 +146,4 @@ module _ (a b : Automaton) (fa : Fits a) (fb : Fits b) (shared : b .alphabet ≡
         some-symbol = omega (arith, ra .some-symbol);
         symbols = omega (arith, ra .symbols, rb .symbols);
         arcs = f .0 .arcs;
-      }) (fa .ascends) (intersection-arcs (f .1))
+      }) (fa .ascends) (fa .well-formed .letters-apart) (intersection-arcs (f .1))

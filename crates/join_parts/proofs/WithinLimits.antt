@@ -8,6 +8,8 @@ use borrow.Author.Tests.{le-ltb, ltb-false}
 use lib.Dec.{ltb}
 use lib.ListN.{length}
 use Rattle.automata.specs.Automaton.{Arc, Automaton}
+use Rattle.automata.specs.Counting.{Apart}
+use Rattle.automata.specs.Letters.{keys}
 use Rattle.automata.specs.Lists.{any}
 use Rattle.file_fields.specs.declared.Counts.{Counts}
 use Rattle.format.specs.Encoding.{sizes}
@@ -63,7 +65,7 @@ module _ (x : Automaton) where
       (few-counts (sizes x) (p .0), each-imply (λ (a : Arc). manyOps a ≡ false) FewOps (λ (a : Arc) (k : manyOps a ≡ false). ltb-false 8 (length (a .ops)) k) (x .arcs) (none-passes manyOps (x .arcs) (p .1)))
 
 -- ---- ranges and arcs make it so
-module _ (x : Automaton) (letters : length (x .alphabet) ≤ 64) (ascends : ascending (x .alphabet) ≡ true)
+module _ (x : Automaton) (letters : length (x .alphabet) ≤ 64) (ascends : ascending (x .alphabet) ≡ true) (apart : Apart (keys (x .alphabet)))
     (some-state : 1 ≤ length (x .finals)) (some-register : 1 ≤ x .registers) (some-symbol : 1 ≤ x .symbols) (symbols : x .symbols ≤ 16) where
   pub joined-fits : Few (sizes x) → Each (ArcFits (sizes x)) (x .arcs) → Fits x
   joined-fits f h = fits-by x (record {
@@ -75,7 +77,7 @@ module _ (x : Automaton) (letters : length (x .alphabet) ≤ 64) (ascends : asce
     some-symbol = some-symbol;
     symbols = symbols;
     arcs = f .arcs;
-  }) ascends h
+  }) ascends apart h
 
 -- 8 operations at most, of arcs within limits
 pub few-ops : (d : Counts) (l : List Arc) → Each (ArcFits d) l → Each FewOps l

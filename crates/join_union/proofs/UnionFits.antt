@@ -7,7 +7,8 @@ use native.Mathlib.Omega.{arith}
 use lib.ListN.{length}
 use Rattle.automata.specs.Automaton.{Automaton}
 use Rattle.automata.specs.Joins.{union, clearing, moved}
-use Rattle.automata.proofs.Laws.{each-join}
+use Rattle.automata.specs.Words.{SameLetters}
+use Rattle.automata.proofs.Laws.{each-join, same-many}
 use Rattle.file_fields.specs.declared.Counts.{Counts}
 use Rattle.format.specs.Limits.{Fits}
 use Rattle.format.specs.Encoding.{sizes}
@@ -17,7 +18,7 @@ use Rattle.join_parts.specs.Joining.{beyond}
 use Rattle.join_parts.proofs.Laws.{FewOps, Room, few-ops, joined-fits, return-fits, states-moved, within}
 use Rattle.join_union.proofs.UnionBytes.{union-counts}
 
-module _ (a b : Automaton) (fa : Fits a) (fb : Fits b) (shared : b .alphabet ≡ a .alphabet) where
+module _ (a b : Automaton) (fa : Fits a) (fb : Fits b) (shared : SameLetters a b) where
   abbrev ca : Counts
   ca = sizes a
 
@@ -25,7 +26,7 @@ module _ (a b : Automaton) (fa : Fits a) (fb : Fits b) (shared : b .alphabet ≡
   cb = sizes b
 
   same-letters : cb .letters ≡ ca .letters
-  same-letters = ap length shared
+  same-letters = same-many a b shared
 
   union-states : length (union a b .finals) ≡ 1 + ca .states + cb .states
   union-states = ap (λ (c : Counts). c .states) (union-counts a b)
@@ -64,5 +65,5 @@ module _ (a b : Automaton) (fa : Fits a) (fb : Fits b) (shared : b .alphabet ≡
   union-fits e =
       let ra = fa .ranges in
       let rb = fb .ranges in
-      joined-fits (union a b) (ra .letters) (fa .ascends) (omega arith) (omega (arith, ra .some-register)) (omega (arith, ra .some-symbol)) (omega (arith, ra .symbols, rb .symbols))
+      joined-fits (union a b) (ra .letters) (fa .ascends) (fa .well-formed .letters-apart) (omega arith) (omega (arith, ra .some-register)) (omega (arith, ra .some-symbol)) (omega (arith, ra .symbols, rb .symbols))
       (within (union a b) e .0) union-arcs

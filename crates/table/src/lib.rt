@@ -56,11 +56,11 @@ pub enum Membership {
     Refused(u8, u8),
 }
 
-// Does the automaton of the file accept the word, and how many configurations are live after it? A word with a byte that is no
-// letter is rejected, and leaves none live. Refuses, in this order: fewer than 8,192 working words, 24 (the automaton at fault is 0);
-// a fault of the file, 1 to 9; more than 256 configurations, 21. The working words are free again afterwards, whatever they held
-// before. All configurations are numbered, the runs of empty moves among them are closed once, and the set of live configurations
-// goes from one letter of the word to the next.
+// Does the automaton of the file accept the word, and how many configurations are live after it? A byte stands for its letter in
+// either case, whichever of the two the file lists. A word with a byte that is no letter is rejected, and leaves none live. Refuses,
+// in this order: fewer than 8,192 working words, 24 (the automaton at fault is 0); a fault of the file, 1 to 9; more than 256
+// configurations, 21. The working words are free again afterwards, whatever they held before. All configurations are numbered, the
+// runs of empty moves among them are closed once, and the set of live configurations goes from one letter of the word to the next.
 // Cost: b + k * o + k * k + n * (a + k * o) steps, where b is the number of bytes of the file, o that of its arcs and operations, a that
 // of its letters, k that of its configurations, 256 at most, and n that of the bytes of the word. An arc that passes costs besides a
 // look into the table of configurations: as many steps as configurations have the key of its target, k at most. Where there are at

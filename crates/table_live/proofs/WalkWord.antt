@@ -4,24 +4,19 @@ use mathlib.Core.Logic.{inr}
 use mathlib.Core.Bool.{Bool, false}
 use mathlib.Core.List.{List, [], _∷_}
 use mathlib.Core.Option.{Option, Option·map, none, some}
-use Prim.Native.Nat.{_+_, _<_, _≤_, suc, ℕ}
-use native.Mathlib.Decide.{decLt, ℕ-discrete}
-use native.Mathlib.Nat.{add-zero}
+use Prim.Native.Nat.{_+_, _<_, _≤_, ℕ}
 use native.Mathlib.Numerals.{add-one}
 use native.Mathlib.Omega.{arith}
-use borrow.Author.Tests.{eq-eqb, le-ltb, lt-ltb, ne-eqb}
-use lib.Dec.{T, eqb, ltb, ltb→lt}
+use lib.Dec.{T}
 use lib.ListN.{drop, drop-of-length-le, getD, length}
 use lib.Seq.{drop-cons}
-use Rattle.automata.specs.Exploration.{number}
 use Rattle.automata.specs.Live.{PlainArc, byLetter, liveFrom, table}
 use Rattle.automata.specs.Unfolding.{spelledOr}
 use Rattle.automata.specs.Words.{letterWith, spelling}
-use Rattle.automata.proofs.Laws.{only-iff}
-use Rattle.file_fields.specs.Letters.{letterFrom, letterNumber}
+use Rattle.automata.proofs.Laws.{letter-lt}
+use Rattle.file_fields.specs.Letters.{letterTold}
 use Rattle.file_fields.specs.Parts.{letterBytes}
 use Rattle.file_fields.specs.declared.Counts.{Counts}
-use Rattle.file_fields.specs.declared.letters.Letter.{Letter}
 use Rattle.file_fields.specs.declared.letters.Letter.the-variants.{At, None}
 use Rattle.file_fields.proofs.Laws.{letters-length}
 use Rattle.word_fields.specs.Frame.{Kept}
@@ -34,49 +29,14 @@ use Rattle.table_file_steps.proofs.Laws.{map-kept}
 use Rattle.word_layout.specs.Layout.{firstSets}
 use Rattle.word_layout.specs.declared.Block.{Block}
 
--- ---- the letter that a byte stands for
--- a letter's number, where there is one, moved by i
-abbrev letterCase : ℕ → Option ℕ → Letter
-letterCase i none = None
-letterCase i (some k) = At (i + k)
+-- ---- the letter that a byte stands for, as code answers it
+pub told-letter : (o : Option ℕ) (l : ℕ) → letterTold o ≡ At l → o ≡ some l
+told-letter none l e = cc
+told-letter (some k) l e = let q : k ≡ l = cc in ap some q
 
--- the number that is found is the definition's
-letter-from : (i b : ℕ) (l : List ℕ) → letterFrom i b l ≡ letterCase i (letterWith l b)
-unfolding letterFrom letterWith number
-letter-from i b [] = refl
-letter-from i b (x ∷ l) = go (ℕ-discrete x b) (decLt n (length l)) (letter-from (suc i) b l)
-  where
-    n : ℕ
-    n = number eqb b l
-
-    Goal : Type 0
-    Goal = letterFrom i b (x ∷ l) ≡ letterCase i (letterWith (x ∷ l) b)
-
-    go : Dec (x ≡ b) → Dec (n < length l) → letterFrom (suc i) b l ≡ letterCase (suc i) (letterWith l b) → Goal
-    go (yes e) d ih = rw (eq-eqb x b e, eq-eqb b x (sym e), lt-ltb 0 (suc (length l)) (omega arith)) (ap At (sym (add-zero i)))
-    go (no e) (yes h) ih = rw (ne-eqb x b e, ne-eqb b x (λ q. e (sym q)), lt-ltb (suc n) (suc (length l)) (omega arith)) (ih ∙ rw (lt-ltb n (length l) h) (ap At (omega arith)))
-    go (no e) (no h) ih = rw (ne-eqb x b e, ne-eqb b x (λ q. e (sym q)), le-ltb (suc n) (suc (length l)) (omega arith)) (ih ∙ rw (le-ltb n (length l) (omega arith)))
-
--- what is found says what the definition gives
-letter-found : (b k : ℕ) (l : List ℕ) → letterNumber b l ≡ At k → letterWith l b ≡ some k
-letter-found b k l e = go (letterWith l b) (sym (letter-from 0 b l) ∙ e)
-  where
-    go : (o : Option ℕ) → letterCase 0 o ≡ At k → o ≡ some k
-    go none f = cc
-    go (some m) f = let q : 0 + m ≡ k = cc in ap some (omega arith)
-
-letter-none : (b : ℕ) (l : List ℕ) → letterNumber b l ≡ None → letterWith l b ≡ none
-letter-none b l e = go (letterWith l b) (sym (letter-from 0 b l) ∙ e)
-  where
-    go : (o : Option ℕ) → letterCase 0 o ≡ None → o ≡ none
-    go none f = refl
-    go (some k) f = cc
-
-pub letter-lt : (b k : ℕ) (l : List ℕ) → letterNumber b l ≡ At k → k < length l
-unfolding letterWith
-letter-lt b k l e =
-    let p = (only-iff (ltb (number eqb b l) (length l)) (number eqb b l) k) .0 (letter-found b k l e) in
-    omega (arith, ltb→lt (number eqb b l) (length l) (p .0), p .1)
+pub told-none : (o : Option ℕ) → letterTold o ≡ None → o ≡ none
+told-none none e = refl
+told-none (some k) e = cc
 
 -- ---- the live set of a word of bytes
 module _ (alphabet : List ℕ) (arcs : List PlainArc) (count : ℕ) where
@@ -85,9 +45,9 @@ module _ (alphabet : List ℕ) (arcs : List PlainArc) (count : ℕ) where
   live-end S = refl
 
   -- a byte that is a letter is a step, and then the rest of the word
-  live-letter : (S : List Bool) (b l : ℕ) (s : List ℕ) → letterNumber b alphabet ≡ At l → liveBytes alphabet arcs count S (b ∷ s) ≡ liveBytes alphabet arcs count (byLetter count arcs S l) s
+  live-letter : (S : List Bool) (b l : ℕ) (s : List ℕ) → letterWith alphabet b ≡ some l → liveBytes alphabet arcs count S (b ∷ s) ≡ liveBytes alphabet arcs count (byLetter count arcs S l) s
   unfolding liveBytes spelling liveFrom
-  live-letter S b l s e = rw (letter-found b l alphabet e) (go (spelling alphabet s))
+  live-letter S b l s e = rw e (go (spelling alphabet s))
     where
       nothing : List Bool
       nothing = table count (λ _. false)
@@ -97,9 +57,9 @@ module _ (alphabet : List ℕ) (arcs : List PlainArc) (count : ℕ) where
       go (some v) = refl
 
   -- a byte that is no letter leaves nothing live
-  live-foreign : (S : List Bool) (b : ℕ) (s : List ℕ) → letterNumber b alphabet ≡ None → liveBytes alphabet arcs count S (b ∷ s) ≡ table count (λ _. false)
+  live-foreign : (S : List Bool) (b : ℕ) (s : List ℕ) → letterWith alphabet b ≡ none → liveBytes alphabet arcs count S (b ∷ s) ≡ table count (λ _. false)
   unfolding liveBytes spelling
-  live-foreign S b s e = rw (letter-none b alphabet e)
+  live-foreign S b s e = rw e
 
 -- the set with nothing in it, which no empty move leaves
 empty-view : (count : ℕ) (arcs : List PlainArc) → (view count (0 ∷ 0 ∷ 0 ∷ 0 ∷ []) ≡ table count (λ _. false)) × εClosedSet count arcs (0 ∷ 0 ∷ 0 ∷ 0 ∷ [])
@@ -128,7 +88,7 @@ module _ {file : List ℕ} {c : Counts} {word w₀ w : List ℕ} {block : Block}
   rest h = rw (add-one i) (drop-cons word i 0 h)
 
   -- a turn with a letter
-  pub walking-more : {w' next : List ℕ} {l : ℕ} → Steppable file c w₀ block firstSets → i < length word → letterNumber (getD word i 0) (letterBytes c file) ≡ At l → Kept firstSets (firstSets + 256) w w'
+  pub walking-more : {w' next : List ℕ} {l : ℕ} → Steppable file c w₀ block firstSets → i < length word → letterWith (letterBytes c file) (getD word i 0) ≡ some l → Kept firstSets (firstSets + 256) w w'
       → ((arcs : List PlainArc) → Outgoing file c w block arcs → εClosedSet (block .count) arcs set → l < c .letters → (view (block .count) next ≡ byLetter (block .count) arcs (view (block .count) set) l) × εClosedSet (block .count) arcs next)
       → Walking file c word w₀ block set₀ w' next (i + 1)
   walking-more {l = l} s h e k f = record {
@@ -137,12 +97,12 @@ module _ {file : List ℕ} {c : Counts} {word w₀ w : List ℕ} {block : Block}
     live = λ arcs o z.
         let p = v .live arcs o z in
         let same = map-kept block (inr (omega arith)) (s .room .apart) (s .findable .configured .few) (v .kept) in
-        let q = f arcs (outgoing-kept same o) (p .1) (omega (arith, letter-lt (getD word i 0) l alphabet e, letters-length c file (omega (arith, s .walkable .lies .fits)))) in
+        let q = f arcs (outgoing-kept same o) (p .1) (omega (arith, letter-lt alphabet (getD word i 0) l e, letters-length c file (omega (arith, s .walkable .lies .fits)))) in
         (p .0 ∙ rw (rest h) (live-letter alphabet arcs (block .count) (view (block .count) set) (getD word i 0) l (drop (i + 1) word) e) ∙ ap (λ (S : List Bool). liveBytes alphabet arcs (block .count) S (drop (i + 1) word)) (sym (q .0)), q .1);
   }
 
   -- a byte that is no letter
-  pub walking-foreign : i < length word → letterNumber (getD word i 0) (letterBytes c file) ≡ None → (arcs : List PlainArc) → Outgoing file c w₀ block arcs → εClosedSet (block .count) arcs set₀
+  pub walking-foreign : i < length word → letterWith (letterBytes c file) (getD word i 0) ≡ none → (arcs : List PlainArc) → Outgoing file c w₀ block arcs → εClosedSet (block .count) arcs set₀
       → (view (block .count) (0 ∷ 0 ∷ 0 ∷ 0 ∷ []) ≡ liveBytes (letterBytes c file) arcs (block .count) (view (block .count) set₀) word) × εClosedSet (block .count) arcs (0 ∷ 0 ∷ 0 ∷ 0 ∷ [])
   walking-foreign h e arcs o z =
       let m = empty-view (block .count) arcs in

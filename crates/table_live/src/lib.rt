@@ -3,6 +3,8 @@
 ghost use mathlib.Core.Path.{_≡_};
 ghost use mathlib.Core.List.{List};
 ghost use Prim.Native.Nat.{_+_, _<_};
+ghost use Rattle.automata.specs.Counting.{Apart};
+ghost use Rattle.automata.specs.Letters.{keys};
 ghost use Rattle.automata.specs.Live.{PlainArc, byLetter};
 ghost use Rattle.word_layout.specs.Layout.{firstSets};
 ghost use Rattle.file_fields.specs.Parts.{letterBytes};
@@ -11,7 +13,9 @@ ghost use Rattle.word_fields.specs.Frame.{Kept};
 ghost use Rattle.word_sets.specs.Sets.{view, εClosedSet};
 ghost use Rattle.table_live.specs.Steps.{Outgoing, Steppable, liveBytes};
 use format::Counts;
+use format::fields::flags_at;
 use format::letters::Letter;
+use format::letters::letter_in;
 use table_file_steps::step_file;
 use table_letters::follow;
 use table_sets::set_of;
@@ -41,7 +45,7 @@ fn step_in_file(
 }
 
 // The live set of a word, from the set `from` on, of the automaton whose file has the counts c; empty where a byte is no letter.
-// Cost: for each byte at most one look at each letter, and one step for each listed arc with the letter; where they are not listed, one for
+// Cost: for each byte at most two looks at each letter, and one step for each listed arc with the letter; where they are not listed, one for
 // each operation of the arcs that leave the state of a live configuration, and a look into the table of configurations for each that passes.
 pub fn walk_word(
     file: &[u8],
@@ -51,15 +55,16 @@ pub fn walk_word(
     block: Block,
     from: [u64; 4],
 ) -> [u64; 4]
-    requires { ⌜ Steppable (now file) c (now w) block firstSets × Lettered (now w) block ⌝ }
+    requires { ⌜ Steppable (now file) c (now w) block firstSets × (Lettered (now w) block × Apart (keys (letterBytes c (now file)))) ⌝ }
     ensures kept { λ _. ⌜ Kept firstSets (firstSets + 256) (now (w .entry)) (now (w .exit)) ⌝ }
     ensures set { λ r. ⌜ ((arcs : List PlainArc) → Outgoing (now (file .entry)) c (now (w .entry)) block arcs → εClosedSet (block .count) arcs from
         → (view (block .count) r ≡ liveBytes (letterBytes c (now (file .entry))) arcs (block .count) (view (block .count) from) (now (word .entry))) × εClosedSet (block .count) arcs r) ⌝ }
 {
+    let end = flags_at(c);
     let mut set = from;
     let mut i: usize = 0;
     while i < word.len() {
-        let Letter::At(l) = format::letters::letter_number(c, file, word[i]) else {
+        let Letter::At(l) = letter_in(&file[12..end], word[i]) else {
             return [0; 4];
         };
         if block.plain <= 2048 {

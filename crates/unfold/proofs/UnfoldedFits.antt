@@ -60,5 +60,5 @@ module _ (x : Automaton) (fits : Fits x) {L : ℕ} (limit : L ≤ 256) (few : le
   unfolding unfolded
   unfolded-fits =
       let e = unfolded-sizes x L in
-      fits-by (unfolded x L) (rw e ranges) (fits .ascends)
+      fits-by (unfolded x L) (rw e ranges) (fits .ascends) (fits .well-formed .letters-apart)
       (mem-each (map asArc (plainArcs x L)) (λ b m. let q = Memᴰ·of-map asArc (plainArcs x L) m in rw e (subst (ArcFits counts) (q .2) (arc-fits (q .0) (q .1)))))

@@ -46,6 +46,18 @@ pub struct Automaton {
     pub arcs: Vec<Arc>,
 }
 
+// ---- letters: bytes 41 to 5A and 61 to 7A that differ only in case stand for one
+
+/// The number of the letter that a byte stands for.
+fn letter_number(letters: &[u8], byte: u8) -> Option<usize> {
+    letters.iter().position(|l| l.eq_ignore_ascii_case(&byte))
+}
+
+/// Do the two list the same letters, place by place?
+fn same_letters(x: &Automaton, y: &Automaton) -> bool {
+    x.letters.eq_ignore_ascii_case(&y.letters)
+}
+
 // ---- the file
 
 /// A fault of a file: its number, and the place where reading meets it. A part that the file ends inside is met where it begins.
@@ -96,6 +108,10 @@ pub fn read(file: &[u8]) -> Result<Automaton, Fault> {
     let letters = part.to_vec();
     if let Some(i) = letters.windows(2).position(|w| w[0] >= w[1]) {
         return fault(5, begin + i + 1);
+    }
+    let again = |i: usize| letter_number(&letters[i + 1..], letters[i]).is_some();
+    if let Some(i) = (0..a).find(|&i| again(i)) {
+        return fault(5, begin + i);
     }
     let (begin, part) = want(s)?;
     let flags = part.to_vec();
@@ -314,8 +330,8 @@ pub fn accepts(file: &[u8], word: &[u8], words_lent: usize) -> Result<(bool, usi
         return refuse(21, 1);
     }
     let mut live = live_at_start(&x);
-    for byte in word {
-        let Some(letter) = x.letters.iter().position(|l| l == byte) else {
+    for &byte in word {
+        let Some(letter) = letter_number(&x.letters, byte) else {
             return Ok((false, 0));
         };
         live = live_after(&x, &live, letter);
@@ -365,8 +381,8 @@ pub enum Verdict {
     Same {
         pairs: usize,
     },
-    /// The first word that exactly one accepts, and which: 1 or 2. Words come in order by their length, and then by the
-    /// places of their letters in the letter list.
+    /// The first word that exactly one accepts, in the first file's bytes, and which accepts it: 1 or 2. Words come in order
+    /// by their length, and then by the places of their letters in the letter list.
     Different {
         pairs: usize,
         accepted_by: u8,
@@ -416,7 +432,7 @@ pub fn compare(
     }
     let x = read_one(first, 1)?;
     let y = read_one(second, 2)?;
-    if x.letters != y.letters {
+    if !same_letters(&x, &y) {
         return refuse(10, 0);
     }
     for (automaton, z) in [(1, &x), (2, &y)] {
@@ -559,7 +575,7 @@ pub fn count_each_word(file: &[u8], length: u64) -> (u64, u64) {
 fn two(first: &[u8], second: &[u8]) -> Result<(Automaton, Automaton), Refusal> {
     let x = read_one(first, 1)?;
     let y = read_one(second, 2)?;
-    if x.letters != y.letters {
+    if !same_letters(&x, &y) {
         return refuse(10, 0);
     }
     Ok((x, y))

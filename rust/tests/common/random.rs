@@ -31,18 +31,81 @@ impl Random {
     }
 }
 
+/// How the letters of a list or a word are written that have two cases.
+#[derive(Clone, Copy)]
+enum Case {
+    Small,
+    Capital,
+    Either,
+}
+
+fn in_case(r: &mut Random, case: Case, byte: u8) -> u8 {
+    match case {
+        Case::Small => byte.to_ascii_lowercase(),
+        Case::Capital => byte.to_ascii_uppercase(),
+        Case::Either if r.one_in(2) => byte.to_ascii_lowercase(),
+        Case::Either => byte.to_ascii_uppercase(),
+    }
+}
+
+/// Letters that ascend, none of them in both cases; now and then a list that has one in both. The bytes beside A to Z and
+/// a to z are among them: @ and `, [ and { differ as a capital and its small letter do, and are two letters each.
 pub fn letters(r: &mut Random) -> Vec<u8> {
     let a = r.of(&[0, 1, 1, 2, 2, 2, 3, 3, 5, 26, 64]);
-    let mut all = Vec::new();
+    let case = r.of(&[Case::Small, Case::Small, Case::Capital, Case::Either]);
+    let mut all: Vec<u8> = Vec::new();
     while all.len() < a {
         let byte = if a > 5 {
             r.below(256) as u8
         } else {
-            r.of(b"abcdefgh\x00\xfe\xff")
+            r.of(b"abcdefgz@[`{\x00\xfe\xff")
         };
-        if !all.contains(&byte) {
-            all.push(byte);
+        if !all.iter().any(|l| l.eq_ignore_ascii_case(&byte)) {
+            all.push(in_case(r, case, byte));
         }
+    }
+    all.sort();
+    if a > 1 && r.one_in(30) {
+        in_both_cases(r, &mut all);
+    }
+    all
+}
+
+/// The other case of a byte that has one, else the byte.
+fn other_case(byte: u8) -> u8 {
+    if byte.is_ascii_lowercase() {
+        byte.to_ascii_uppercase()
+    } else {
+        byte.to_ascii_lowercase()
+    }
+}
+
+/// Puts the other case of a letter, if one has two, in the place of another letter. Most of the lists ascend then.
+fn in_both_cases(r: &mut Random, letters: &mut [u8]) {
+    let n = letters.len();
+    let begin = r.below(n);
+    let mut places = (begin..begin + n).map(|i| i % n);
+    if let Some(i) = places.find(|&i| letters[i].is_ascii_alphabetic()) {
+        letters[(i + 1) % n] = other_case(letters[i]);
+    }
+    if !r.one_in(4) {
+        letters.sort();
+    }
+}
+
+/// The same letters, ascending, in cases of their own: all in the other case, or first capitals and then small letters, or each by
+/// chance. They stand at the same places, or at others where their bytes have another order.
+fn in_other_cases(r: &mut Random, letters: &[u8]) -> Vec<u8> {
+    let kind = r.below(3);
+    let capitals = r.below(letters.len() + 1);
+    let mut all = Vec::new();
+    for (i, &letter) in letters.iter().enumerate() {
+        all.push(match kind {
+            0 => other_case(letter),
+            1 if i < capitals => letter.to_ascii_uppercase(),
+            1 => letter.to_ascii_lowercase(),
+            _ => in_case(r, Case::Either, letter),
+        });
     }
     all.sort();
     all
@@ -192,16 +255,19 @@ pub fn file(r: &mut Random, letters: &[u8]) -> Vec<u8> {
     }
 }
 
-/// A couple of files, mostly over the same letters, often nearly the same automaton.
+/// A couple of files, mostly over the same letters, sometimes in other cases, often nearly the same automaton.
 pub fn couple(r: &mut Random) -> (Vec<u8>, Vec<u8>) {
     let shared = letters(r);
     let any = if r.one_in(2) { automaton } else { sparse };
     let x = any(r, &shared);
-    let y = match r.below(4) {
+    let mut y = match r.below(4) {
         0 => x.clone(),
         1 => changed(r, &x),
         _ => any(r, &shared),
     };
+    if r.one_in(3) {
+        y.letters = in_other_cases(r, &shared);
+    }
     let (mut first, mut second) = (write(&x), write(&y));
     if r.one_in(12) {
         first = damaged(r, first);
@@ -216,15 +282,23 @@ pub fn couple(r: &mut Random) -> (Vec<u8>, Vec<u8>) {
     (first, second)
 }
 
-/// A word, mostly over the letters.
+/// A word, mostly over the letters, as they are listed or in other cases. A byte that is none is any, or one that differs from a
+/// letter as a capital from its small letter, whether or not that byte has two cases.
 pub fn word(r: &mut Random, letters: &[u8]) -> Vec<u8> {
     let n = r.of(&[0, 1, 2, 3, 5, 10, 40]);
+    let as_listed = r.one_in(2);
     (0..n)
         .map(|_| {
-            if letters.is_empty() || r.one_in(60) {
-                r.below(256) as u8
+            if letters.is_empty() || r.one_in(120) {
+                return r.below(256) as u8;
+            }
+            let letter = r.of(letters);
+            if r.one_in(120) {
+                letter ^ 0x20
+            } else if as_listed {
+                letter
             } else {
-                r.of(letters)
+                in_case(r, Case::Either, letter)
             }
         })
         .collect()

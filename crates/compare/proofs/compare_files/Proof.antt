@@ -6,7 +6,8 @@ use Prim.Native.Nat.{_+_, _-_, ℕ}
 use native.Mathlib.Omega.{arith}
 use lib.ListN.{drop, length, take}
 use Rattle.format.specs.Decoding.{automatonOf}
-use Rattle.file_laws.proofs.Laws.{lent-letters, valid-alphabet, valid-letters}
+use Rattle.file_fields.proofs.Laws.{lent-letters}
+use Rattle.file_laws.proofs.Laws.{valid-alphabet, valid-letters}
 use Rattle.table_sets.proofs.Laws.{block-but, tells-listed}
 use Rattle.table.proofs.Laws.{letters-few}
 use Rattle.compare.specs.Loading.{Comparable, Prepared}

@@ -1,20 +1,19 @@
 -- `book_console::words::is_argument` meets its contract.
 use mathlib.Core.Path.{_≡_}
+use mathlib.Core.Logic.{_↔_}
 use mathlib.Core.Bool.{Bool}
 use mathlib.Core.List.{List}
 use Prim.Native.Nat.{_≤_, ℕ}
 use native.Mathlib.Omega.{arith}
 use borrow.Author.Needs.{needs}
-use lib.Dec.{eqb}
+use lib.Dec.{T}
 use lib.ListN.{length}
-use Rattle.automata.specs.Lists.{sameBy}
-use Rattle.automata.proofs.Laws.{eqb-iff, sameBy-iff}
 use Rattle.book_console.specs.Inputs.{Asked}
 use Rattle.book_console.proofs.words.is_argument.Statement.{statement}
 use Rattle.book_console.proofs.words.is_argument.Tie as tie
 
-asked : (text word : List ℕ) (r : Bool) → r ≡ sameBy eqb text word → length text ≤ 4096 → Asked word r
-asked text word r e h = record { text = text; short = h; same = rw e (sameBy-iff eqb eqb-iff text word) }
+asked : (text word : List ℕ) (r : Bool) → T r ↔ (text ≡ word) → length text ≤ 4096 → Asked word r
+asked text word r e h = record { text = text; short = h; same = e }
 
 returns : tie.Need-returns
 returns c = asked _ _ _ (c .same-bytes .ensures) (omega arith)

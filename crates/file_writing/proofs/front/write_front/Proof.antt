@@ -2,7 +2,8 @@
 use native.Mathlib.Omega.{arith}
 use borrow.Author.Needs.{needs}
 use lib.ListN.{length-drop, length-take}
-use Rattle.file_laws.proofs.Laws.{file-seen, lent-letters, valid-alphabet, valid-ranges}
+use Rattle.file_fields.proofs.Laws.{lent-letters}
+use Rattle.file_laws.proofs.Laws.{file-seen, valid-alphabet, valid-ranges}
 use Rattle.file_writing.proofs.Placed.{appended-length, written-then}
 use Rattle.file_writing.proofs.front.write_front.Statement.{statement}
 use Rattle.file_writing.proofs.front.write_front.Tie as tie

@@ -7,7 +7,7 @@ use mathlib.Core.Bool.{cond}
 use native.Mathlib.Omega.{arith}
 use Rattle.word_layout.specs.Layout.{letteredEnd, firstSets}
 use Rattle.format.specs.Decoding.{automatonOf}
-use Rattle.file_laws.proofs.Laws.{valid-alphabet}
+use Rattle.file_laws.proofs.Laws.{valid-alphabet, valid-wellFormed}
 use Rattle.word_fields.specs.Frame.{Kept}
 use Rattle.word_fields.proofs.Laws.{kept-then, kept-wider}
 use Rattle.word_rows.specs.Rows.{row}
@@ -41,7 +41,8 @@ walk-word-requires c κs =
     let s = k .before .before .before .before .before .before .before .before .before in
     let p = s .pre in
     let room : Room (s .args .w .now) (s .args .block .base) firstSets = record { block = p .0 .placed .block; rows = omega (arith, p .0 .placed .block, p .1 .0); apart = inl (p .1 .0) } in
-    (steppable-kept (same k) (stands-steps (p .0) room), k .link .ensures .1)
+    let valid = p .0 .numbered .valid in
+    (steppable-kept (same k) (stands-steps (p .0) room), (k .link .ensures .1, rw (valid-alphabet (s .args .file .now) (s .args .c) valid) at (valid-wellFormed (s .args .file .now) (s .args .c) valid .letters-apart)))
 
 -- what the word leaves
 answer : (c : tie.After-meets) → let s = c .before .before .before .before .before .before .before .before .before .before .before .before .before .before .before .before .before in let a = s .args in

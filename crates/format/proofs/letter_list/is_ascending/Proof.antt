@@ -1,16 +1,16 @@
--- How many bytes ascend strictly: those before the last that the loop has passed, and how many from that one on.
+-- Whether bytes ascend strictly: how many do is counted as the loop goes.
 use mathlib.Core.Path.{_≡_, ap, sym, _∙_}
 use native.Mathlib.Nat.{zero-add}
 use native.Mathlib.Omega.{arith}
 use mathlib.Core.Bool.{cond}
 use Prim.Native.Nat.{suc, _+_, _-_, _≤_}
-use borrow.Author.Tests.{lt-ltb, le-ltb}
+use borrow.Author.Tests.{le-leb, le-ltb, lt-leb, lt-ltb}
 use lib.Dec.{ltb}
 use lib.ListN.{length, getD, drop}
 use Rattle.file_fields.specs.Parts.{ascendingFront}
-use Rattle.file_fields.proofs.Laws.{ascending-at, ascending-end}
-use Rattle.format.proofs.body.ascending_front.Statement.{statement}
-use Rattle.format.proofs.body.ascending_front.Tie as tie
+use Rattle.file_fields.proofs.Laws.{ascending-all, ascending-at, ascending-end}
+use Rattle.format.proofs.letter_list.is_ascending.Statement.{statement}
+use Rattle.format.proofs.letter_list.is_ascending.Tie as tie
 
 abbrev Inv-loop : tie.InvT-loop
 Inv-loop s i₀ i = (1 ≤ i) × (i - 1 ≤ length s) × (ascendingFront s ≡ i - 1 + ascendingFront (drop (i - 1) s))
@@ -30,20 +30,28 @@ loop-holds : tie.Need-loop-holds Inv-loop μ-loop
 loop-holds c = (omega arith, omega arith, rw zero-add)
 
 returns : tie.Need-returns Inv-loop μ-loop
-returns c = (sym (turn (c .before .before .before) ∙ rw (le-ltb _ _ (c .if1 .taken)) (omega arith)), omega arith)
+returns c =
+    let s = c .before .before .before .before .before .args .s .now in
+    let i = c .before .before .before .before .loop .i in
+    let e : ascendingFront s ≡ i - 1 + suc 0 = turn (c .before .before .before) ∙ rw (le-ltb (getD s (i - 1) 0) (getD s i 0) (omega arith)) in
+    sym (ascending-all s ∙ lt-leb (length s) (ascendingFront s) (omega arith))
 
 loop-again : tie.Need-loop-again Inv-loop μ-loop
-loop-again c = let e : c .before .before .before .before .loop .i + 1 - 1 ≡ c .before .before .before .before .loop .i = omega arith in
-    (omega arith, omega arith, turn (c .before .before .before) ∙ rw (lt-ltb _ _ (c .if1 .left), e) (omega arith))
+loop-again c =
+    let s = c .before .before .before .before .before .args .s .now in
+    let i = c .before .before .before .before .loop .i in
+    let e : i + 1 - 1 ≡ i = omega arith in
+    (omega arith, omega arith, turn (c .before .before .before) ∙ rw (lt-ltb (getD s (i - 1) 0) (getD s i 0) (omega arith), e) (omega arith))
 
 returns-2 : tie.Need-returns-2 Inv-loop μ-loop
 returns-2 c =
+    let s = c .before .before .args .s .now in
     let l = c .before .loop in
-    let e = ascending-end (c .before .before .args .s .now) (l .i - 1) (omega arith) in
-    (omega (arith, l .inv .2), omega arith)
+    let e = ascending-end s (l .i - 1) (omega arith) in
+    sym (ascending-all s ∙ le-leb (length s) (ascendingFront s) (omega (arith, l .inv .2)))
 
-pub ascending-front-spec : {M : Type 1} → statement M
-ascending-front-spec =
+pub is-ascending-spec : {M : Type 1} → statement M
+is-ascending-spec =
     tie.close
     (tie.spec
     Inv-loop

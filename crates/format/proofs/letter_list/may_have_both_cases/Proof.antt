@@ -1,0 +1,27 @@
+-- Whether there may be a letter in both cases: not where all are above the capitals, or all below the small letters.
+use mathlib.Core.Path.{_≡_, refl, sym, _∙_}
+use mathlib.Core.Logic.{_⊎_, inl, inr, ⊎-elim}
+use mathlib.Core.Bool.{Bool, _&&_, false, true}
+use native.Mathlib.Omega.{arith}
+use borrow.Author.Needs.{needs}
+use borrow.Author.Tests.{leb-false}
+use Rattle.file_fields.proofs.Laws.{one-kind, unlike-end}
+use Rattle.format.proofs.letter_list.may_have_both_cases.Statement.{statement}
+use Rattle.format.proofs.letter_list.may_have_both_cases.Tie as tie
+
+either-fails : (a b : Bool) → (a && b) ≡ false → (a ≡ false) ⊎ (b ≡ false)
+either-fails true b e = inr e
+either-fails false b e = inl refl
+
+returns : tie.Need-returns
+returns c = λ _. unlike-end (c .before .args .s .now) 0 (omega arith) ∙ sym (c .if1 .taken)
+
+returns-2 : tie.Need-returns-2
+returns-2 c =
+    let s = c .before .before .before in
+    λ e. one-kind (s .args .s .now) (s .pre) (⊎-elim (λ f. inl (leb-false _ _ f)) (λ f. inr (leb-false _ _ f)) (either-fails _ _ e))
+
+pub may-have-both-cases-spec : {M : Type 1} → statement M
+may-have-both-cases-spec =
+    tie.close
+    (tie.spec returns (λ c. search needs) (λ c. search needs) (λ c. search needs) returns-2)
