@@ -26,9 +26,9 @@
  * call that was not refused leaves the bytes behind its result as they were lent.
  *
  * Where several refusals would be in place, the call answers the first in this order: RA_TOO_LITTLE_MEMORY_LENT; the first file's
- * fault (1 to 9, the first one that is met from left to right); the second file's fault; RA_LETTER_LISTS_DIFFER, or
- * RA_LENGTH_TOO_LARGE; RA_JOINED_BEYOND_A_LIMIT, or RA_TOO_MANY_CONFIGURATIONS and RA_TOO_MANY_PLAIN_ARCS of the first, then of
- * the second; RA_TOO_MANY_LIVE_SETS; RA_OUTPUT_TOO_SHORT.
+ * fault (the first one that is met from left to right); the second file's fault; RA_LETTER_LISTS_DIFFER, or RA_LENGTH_TOO_LARGE;
+ * RA_JOINED_BEYOND_A_LIMIT, or RA_TOO_MANY_CONFIGURATIONS and RA_TOO_MANY_PLAIN_ARCS of the first, then of the second;
+ * RA_TOO_MANY_LIVE_SETS; RA_OUTPUT_TOO_SHORT.
  */
 #ifndef REGISTERED_AUTOMATA_H
 #define REGISTERED_AUTOMATA_H
@@ -51,7 +51,10 @@ extern "C" {
 
 /* Why a call was refused. */
 enum ra_refusal {
-    /* of a file */
+    /* The faults of a file: 1 to 9 and 32 to 34. They stand here in the order in which reading meets them, but that 1 is met wherever
+     * the file ends inside a part, and those of an arc at each arc in turn. Of an arc's first four bytes each has a number of its own,
+     * and the first that is wrong is told. */
+
     /* the file ends inside a field */
     RA_ENDS_INSIDE_A_FIELD = 1,
     /* the file does not begin with the mark MLB */
@@ -64,10 +67,14 @@ enum ra_refusal {
     RA_LETTERS_NOT_ASCENDING = 5,
     /* a final flag is neither 00 nor 01 */
     RA_FINAL_FLAG = 6,
-    /* an arc's state, letter or number of operations is out of its range: states and letters below their counts, or
-     * letter FF; operations 1 to 8
-     */
-    RA_ARC_FIELD = 7,
+    /* an arc's from-state, its first byte, is not below the number of states */
+    RA_ARC_SOURCE = 7,
+    /* an arc's letter, its second byte, is neither below the number of letters nor FF */
+    RA_ARC_LETTER = 32,
+    /* an arc's to-state, its third byte, is not below the number of states */
+    RA_ARC_TARGET = 33,
+    /* an arc's number of operations, its fourth byte, is not 1 to 8 */
+    RA_ARC_OPERATIONS = 34,
     /* an operation is not one: kind 0 or 1, register and symbol below their counts, register 0 only with the read of
      * symbol 0
      */
@@ -103,7 +110,7 @@ struct ra_reading {
     uint64_t symbols;
     uint64_t arcs;
     uint64_t place;     /* where the fault stands, in bytes from the file's start, at most file_length; 0 of a valid file */
-    uint8_t number;     /* 0, or the file's fault: 1 to 9 */
+    uint8_t number;     /* 0, or the file's fault in enum ra_refusal */
     uint8_t automaton;  /* the automaton at fault: 1 where the file has a fault */
 };
 
@@ -146,34 +153,36 @@ struct ra_word_count {
 struct ra_reading ra_read(const uint8_t *file, size_t file_length);
 
 /* Does the automaton of the file accept the word? Its bytes are taken without regard to capitals. A word with a byte that is no
- * letter isn't accepted, and leaves no configuration live. Refused: 1 to 9, 21, 24. */
+ * letter isn't accepted, and leaves no configuration live. Refused: a fault of the file, 21, 24. */
 struct ra_membership ra_accepts(const uint8_t *file, size_t file_length,
                                 const uint8_t *word, size_t word_length,
                                 uint64_t *work, size_t work_words);
 
 /* Writes an automaton with one register, which always holds 0, that accepts the same words. Its states are the configurations
- * of the first. Refused: 1 to 9, 21, 22, 24, 25. */
+ * of the first. Refused: a fault of the file, 21, 22, 24, 25. */
 struct ra_written ra_unfold(const uint8_t *file, size_t file_length,
                             uint64_t *work, size_t work_words,
                             uint8_t *out, size_t out_length);
 
 /* Writes an automaton that accepts the words of either. Its letters are the bytes of the first, as in every join.
- * Refused: 1 to 11, 25. */
+ * Refused: a fault of either file, 10, 11, 25. */
 struct ra_written ra_union(const uint8_t *first, size_t first_length,
                            const uint8_t *second, size_t second_length,
                            uint8_t *out, size_t out_length);
 
-/* Writes an automaton that accepts each word of the first followed by a word of the second. Refused: 1 to 11, 25. */
+/* Writes an automaton that accepts each word of the first followed by a word of the second.
+ * Refused: a fault of either file, 10, 11, 25. */
 struct ra_written ra_concatenate(const uint8_t *first, size_t first_length,
                                  const uint8_t *second, size_t second_length,
                                  uint8_t *out, size_t out_length);
 
-/* Writes an automaton that accepts the words that both accept. Refused: 1 to 11, 25. */
+/* Writes an automaton that accepts the words that both accept. Refused: a fault of either file, 10, 11, 25. */
 struct ra_written ra_intersect(const uint8_t *first, size_t first_length,
                                const uint8_t *second, size_t second_length,
                                uint8_t *out, size_t out_length);
 
-/* Writes an automaton that accepts every finite sequence of the file's words, the empty one among them. Refused: 1 to 9, 11, 25. */
+/* Writes an automaton that accepts every finite sequence of the file's words, the empty one among them.
+ * Refused: a fault of the file, 11, 25. */
 struct ra_written ra_close(const uint8_t *file, size_t file_length,
                            uint8_t *out, size_t out_length);
 
@@ -181,7 +190,7 @@ struct ra_written ra_close(const uint8_t *file, size_t file_length,
  * front of `word`, which needs RA_WORD_BYTES bytes or more; where they do, `word` is left as it was lent. The first is that of the
  * shortest which is first in letter order: where two words first differ, the letter that is listed first decides. It is written in
  * the first file's bytes, whichever of the two accepts it.
- * Refused: 1 to 10, 21 to 24. */
+ * Refused: a fault of either file, 10, 21 to 24. */
 struct ra_comparison ra_compare(const uint8_t *first, size_t first_length,
                                 const uint8_t *second, size_t second_length,
                                 uint64_t *work, size_t work_words,
@@ -189,7 +198,7 @@ struct ra_comparison ra_compare(const uint8_t *first, size_t first_length,
 
 /* How many words of `length` letters does the automaton of the file accept, and how many not? A word is counted once, however many
  * runs spell it. With no letters there is one word of length 0, and none of any other length. What is counted for
- * RA_TOO_MANY_LIVE_SETS are the live sets of words of every length. Refused: 1 to 9, 21, 23, 24, 31; never 22. */
+ * RA_TOO_MANY_LIVE_SETS are the live sets of words of every length. Refused: a fault of the file, 21, 23, 24, 31; never 22. */
 struct ra_word_count ra_count_words(const uint8_t *file, size_t file_length,
                                     uint64_t length,
                                     uint64_t *work, size_t work_words);

@@ -192,7 +192,13 @@ static void test_read(void) {
         {"T with the letters c C m", 13, 'C', RA_LETTERS_NOT_ASCENDING, 13},
         {"T with the letters E e m", 12, 'E', RA_LETTERS_NOT_ASCENDING, 12},
         {"T with the final flag 02", 17, 2, RA_FINAL_FLAG, 17},
-        {"T with an arc to state 3", 20, 3, RA_ARC_FIELD, 20},
+        {"T with an arc from state 3", 18, 3, RA_ARC_SOURCE, 18},
+        {"T with an arc by letter 3", 19, 3, RA_ARC_LETTER, 19},
+        {"T with an arc by letter FE", 19, 0xFE, RA_ARC_LETTER, 19},
+        {"T with an arc to state 3", 20, 3, RA_ARC_TARGET, 20},
+        {"T with an arc of no operation", 21, 0, RA_ARC_OPERATIONS, 21},
+        {"T with an arc of 9 operations", 21, 9, RA_ARC_OPERATIONS, 21},
+        {"T with a last arc by letter 3", 43, 3, RA_ARC_LETTER, 43},
         {"T with a write to register 0", 22, 0x10, RA_OPERATION, 22},
         {"T with a write of symbol 3", 23, 3, RA_OPERATION, 22},
     };
@@ -204,6 +210,19 @@ static void test_read(void) {
     memcpy(damaged, T, sizeof T);
     damaged[sizeof T] = 0;
     expect_fault("T and one byte more", damaged, sizeof damaged, RA_BYTES_AFTER_THE_LAST_ARC, sizeof T);
+
+    /* Of several wrong fields of an arc the first is told, before the operations are wanted. */
+    memcpy(damaged, T, sizeof T);
+    damaged[45] = 9;
+    expect_fault("T with a last arc of 9 operations, which are not there", damaged, sizeof T, RA_ARC_OPERATIONS, 45);
+    damaged[44] = 3;
+    expect_fault("the same, the arc to state 3", damaged, sizeof T, RA_ARC_TARGET, 44);
+    damaged[43] = 3;
+    expect_fault("the same, by letter 3", damaged, sizeof T, RA_ARC_LETTER, 43);
+    damaged[42] = 3;
+    expect_fault("the same, from state 3", damaged, sizeof T, RA_ARC_SOURCE, 42);
+    expect_fault("the same, without the operations", damaged, 46, RA_ARC_SOURCE, 42);
+    expect_fault("the same, without the arc's fourth byte", damaged, 45, RA_ENDS_INSIDE_A_FIELD, 42);
 }
 
 static void expect_word(const char *name, const uint8_t *file, size_t size, const char *word, int accepted, int live) {
@@ -420,6 +439,28 @@ static void test_count_words(void) {
     expect_no_words(ra_count_words(NULL, 0, 65, work, RA_WORKING_WORDS - 1), RA_TOO_LITTLE_MEMORY_LENT, 0);
 }
 
+/* Every call tells which field of an arc is wrong, and of which file. */
+static void test_arc_fields(void) {
+    const enum ra_refusal fields[] = {RA_ARC_SOURCE, RA_ARC_LETTER, RA_ARC_TARGET, RA_ARC_OPERATIONS};
+    for (size_t i = 0; i < 4; i++) {
+        uint8_t damaged[sizeof T];
+        memcpy(damaged, T, sizeof T);
+        damaged[18 + i] = 9;
+        printf("every call on T with the byte 9 at place %zu\n", 18 + i);
+        lend();
+        struct ra_membership m = ra_accepts(damaged, sizeof T, NULL, 0, work, RA_WORKING_WORDS);
+        expect("number of ra_accepts", m.number, fields[i]);
+        expect("automaton at fault", m.automaton, 1);
+        expect_refusal(ra_unfold(damaged, sizeof T, work, RA_WORKING_WORDS, out, sizeof out), fields[i], 1);
+        expect_refusal(ra_union(T, sizeof T, damaged, sizeof T, out, sizeof out), fields[i], 2);
+        expect_refusal(ra_concatenate(damaged, sizeof T, T, sizeof T, out, sizeof out), fields[i], 1);
+        expect_refusal(ra_intersect(T, sizeof T, damaged, sizeof T, out, sizeof out), fields[i], 2);
+        expect_refusal(ra_close(damaged, sizeof T, out, sizeof out), fields[i], 1);
+        expect_no_comparison(ra_compare(T, sizeof T, damaged, sizeof T, work, RA_WORKING_WORDS, out, RA_WORD_BYTES), fields[i], 2);
+        expect_no_words(ra_count_words(damaged, sizeof T, 3, work, RA_WORKING_WORDS), fields[i], 1);
+    }
+}
+
 int main(void) {
     test_read();
     test_accepts();
@@ -434,6 +475,7 @@ int main(void) {
     test_compare();
     test_capitals();
     test_count_words();
+    test_arc_fields();
     printf("%d checks, %d differences\n", checks, differences);
     return differences > 0;
 }

@@ -81,7 +81,16 @@ pub struct WordCount {
 
 /// Is the file valid? Answers its counts, or its first fault and where that stands.
 ///
-/// Faults: 1 to 9.
+/// Which numbers the faults of a file have is told at [`Reason`].
+///
+/// ```
+/// use registered_automata::{read, Reason};
+///
+/// let mut file = include_bytes!("../../samples/T.mlb").to_vec();
+/// file[19] = 3; // the letter of the first arc: T has the letters 0, 1 and 2
+/// let fault = read(&file).unwrap_err();
+/// assert_eq!((fault.reason, fault.place), (Reason::ArcLetter, 19));
+/// ```
 pub fn read(file: &[u8]) -> Result<Counts, Fault> {
     let r = unsafe { engine::ra_read(file.as_ptr(), file.len()) };
     Refusal::unless(r.number, r.automaton).map_err(|refusal| Fault {
@@ -100,7 +109,7 @@ pub fn read(file: &[u8]) -> Result<Counts, Fault> {
 /// Does the automaton of the file accept the word? Its bytes are taken without regard to capitals. A word with a byte that is
 /// no letter is rejected.
 ///
-/// Refused, in this order: 24 with fewer than [`WORKING_WORDS`]; 1 to 9; 21.
+/// Refused, in this order: 24 with fewer than [`WORKING_WORDS`]; a fault of the file; 21.
 pub fn accepts(file: &[u8], word: &[u8], work: &mut [u64]) -> Result<Membership, Refusal> {
     let r = unsafe {
         engine::ra_accepts(
@@ -126,7 +135,7 @@ fn written(r: engine::Written) -> Result<usize, Refusal> {
 
 /// Writes an automaton without registers that accepts the same words, and answers the length of its file.
 ///
-/// Refused, in this order: 24 with fewer than [`WORKING_WORDS`]; 1 to 9; 21; 22; 25.
+/// Refused, in this order: 24 with fewer than [`WORKING_WORDS`]; a fault of the file; 21; 22; 25.
 pub fn unfold(file: &[u8], work: &mut [u64], out: &mut [u8]) -> Result<usize, Refusal> {
     written(unsafe {
         engine::ra_unfold(
@@ -143,7 +152,7 @@ pub fn unfold(file: &[u8], work: &mut [u64], out: &mut [u8]) -> Result<usize, Re
 /// Writes an automaton that accepts the words of either, and answers the length of its file. Its letters are the first file's
 /// bytes, as in every join.
 ///
-/// Refused, in this order: 1 to 9 of the first, then of the second; 10; 11; 25.
+/// Refused, in this order: a fault of the first file, then of the second; 10; 11; 25.
 pub fn union(first: &[u8], second: &[u8], out: &mut [u8]) -> Result<usize, Refusal> {
     written(unsafe {
         engine::ra_union(
@@ -159,7 +168,7 @@ pub fn union(first: &[u8], second: &[u8], out: &mut [u8]) -> Result<usize, Refus
 
 /// Writes an automaton that accepts a word of the first followed by one of the second, and answers the length of its file.
 ///
-/// Refused, in this order: 1 to 9 of the first, then of the second; 10; 11; 25.
+/// Refused, in this order: a fault of the first file, then of the second; 10; 11; 25.
 pub fn concatenate(first: &[u8], second: &[u8], out: &mut [u8]) -> Result<usize, Refusal> {
     written(unsafe {
         engine::ra_concatenate(
@@ -175,7 +184,7 @@ pub fn concatenate(first: &[u8], second: &[u8], out: &mut [u8]) -> Result<usize,
 
 /// Writes an automaton that accepts the words that both accept, and answers the length of its file.
 ///
-/// Refused, in this order: 1 to 9 of the first, then of the second; 10; 11; 25.
+/// Refused, in this order: a fault of the first file, then of the second; 10; 11; 25.
 pub fn intersect(first: &[u8], second: &[u8], out: &mut [u8]) -> Result<usize, Refusal> {
     written(unsafe {
         engine::ra_intersect(
@@ -191,7 +200,7 @@ pub fn intersect(first: &[u8], second: &[u8], out: &mut [u8]) -> Result<usize, R
 
 /// Writes an automaton that accepts the finite sequences of words of the file's, and answers the length of its file.
 ///
-/// Refused, in this order: 1 to 9; 11; 25.
+/// Refused, in this order: a fault of the file; 11; 25.
 pub fn close(file: &[u8], out: &mut [u8]) -> Result<usize, Refusal> {
     written(unsafe { engine::ra_close(file.as_ptr(), file.len(), out.as_mut_ptr(), out.len()) })
 }
@@ -199,8 +208,8 @@ pub fn close(file: &[u8], out: &mut [u8]) -> Result<usize, Refusal> {
 /// Do the two accept the same words, of every length? Where they don't, the first word that exactly one accepts is
 /// written to the front of `word`, in the first file's bytes: of the shortest ones, the first in letter order.
 ///
-/// Refused, in this order: 24 with fewer than [`WORKING_WORDS`] or a `word` of fewer than [`WORD_BYTES`]; 1 to 9 of the
-/// first, then of the second; 10; 21 and 22 of the first, then of the second; 23.
+/// Refused, in this order: 24 with fewer than [`WORKING_WORDS`] or a `word` of fewer than [`WORD_BYTES`]; a fault of the first
+/// file, then of the second; 10; 21 and 22 of the first, then of the second; 23.
 pub fn compare(
     first: &[u8],
     second: &[u8],
@@ -243,8 +252,8 @@ pub fn compare(
 /// assert_eq!(answer.rejected, 1 << 62);
 /// ```
 ///
-/// Refused, in this order: 24 with fewer than [`WORKING_WORDS`]; 1 to 9; 31 with a length above 64, or one that more words
-/// have than 64 bits count; 21; 23, where words of every length count.
+/// Refused, in this order: 24 with fewer than [`WORKING_WORDS`]; a fault of the file; 31 with a length above 64, or one that
+/// more words have than 64 bits count; 21; 23, where words of every length count.
 pub fn count_words(file: &[u8], length: u64, work: &mut [u64]) -> Result<WordCount, Refusal> {
     let r = unsafe {
         engine::ra_count_words(

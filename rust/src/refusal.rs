@@ -20,6 +20,10 @@ impl Automaton {
 }
 
 /// What a refusal's number stands for.
+///
+/// The faults of a file are 1 to 9 and 32 to 34. They stand here first, in the order in which reading meets them, but that 1 is
+/// met wherever the file ends inside a part, and those of an arc at each arc in turn. Of an arc's first four bytes each has a
+/// number of its own, and the first that is wrong is told.
 #[derive(Clone, Copy, Debug, PartialEq, Eq)]
 pub enum Reason {
     EndsInsideAField = 1,
@@ -29,7 +33,14 @@ pub enum Reason {
     /// Or a letter is listed as a capital and as a small letter.
     LettersNotAscending = 5,
     FinalFlag = 6,
-    ArcField = 7,
+    /// The from-state, an arc's first byte.
+    ArcSource = 7,
+    /// The letter, an arc's second byte.
+    ArcLetter = 32,
+    /// The to-state, an arc's third byte.
+    ArcTarget = 33,
+    /// The number of operations, an arc's fourth byte.
+    ArcOperations = 34,
     Operation = 8,
     BytesAfterTheLastArc = 9,
     /// A capital and its small letter are one letter.
@@ -45,14 +56,14 @@ pub enum Reason {
 
 impl Reason {
     /// All of them, in the order of their numbers.
-    pub const ALL: [Reason; 17] = [
+    pub const ALL: [Reason; 20] = [
         Reason::EndsInsideAField,
         Reason::Mark,
         Reason::Version,
         Reason::HeaderCount,
         Reason::LettersNotAscending,
         Reason::FinalFlag,
-        Reason::ArcField,
+        Reason::ArcSource,
         Reason::Operation,
         Reason::BytesAfterTheLastArc,
         Reason::LetterListsDiffer,
@@ -63,6 +74,9 @@ impl Reason {
         Reason::TooLittleMemoryLent,
         Reason::OutputTooShort,
         Reason::LengthTooLarge,
+        Reason::ArcLetter,
+        Reason::ArcTarget,
+        Reason::ArcOperations,
     ];
 
     /// The number of the refusal.
@@ -85,7 +99,10 @@ impl Reason {
             Reason::HeaderCount => "a count is out of its range: letters 0 to 64, states 1 to 256, registers 1 to 8, symbols 1 to 16, arcs 0 to 2048",
             Reason::LettersNotAscending => "the letters do not ascend strictly, or a letter stands there as a capital and as a small letter",
             Reason::FinalFlag => "a final flag is neither 00 nor 01",
-            Reason::ArcField => "an arc's state, letter or number of operations is out of its range: states and letters below their counts, or letter FF; operations 1 to 8",
+            Reason::ArcSource => "an arc's from-state, its first byte, is not below the number of states",
+            Reason::ArcLetter => "an arc's letter, its second byte, is neither below the number of letters nor FF",
+            Reason::ArcTarget => "an arc's to-state, its third byte, is not below the number of states",
+            Reason::ArcOperations => "an arc's number of operations, its fourth byte, is not 1 to 8",
             Reason::Operation => "an operation is not one: kind 0 or 1, register and symbol below their counts, register 0 only with the read of symbol 0",
             Reason::BytesAfterTheLastArc => "bytes follow the last arc",
             Reason::LetterListsDiffer => "the two files list different letters, or the same at other places",

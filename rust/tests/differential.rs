@@ -8,6 +8,7 @@ mod common;
 use common::plain;
 use common::random::{self, Random};
 use registered_automata as engine;
+use std::collections::BTreeMap;
 
 /// What stands in lent memory before a call: bytes and words that a call must leave, or may not depend on.
 fn noise(r: &mut Random, n: usize) -> Vec<u8> {
@@ -230,6 +231,23 @@ fn capitals_and_small_letters_are_met() {
     assert!(in_both_cases > 5, "{in_both_cases}");
     assert!(agree > 50, "{agree}");
     assert!(elsewhere > 5, "{elsewhere}");
+}
+
+/// The random files have every fault that a file can have.
+#[test]
+fn every_fault_of_a_file_is_met() {
+    let mut met = BTreeMap::new();
+    for seed in 1..=2_000 {
+        let r = &mut Random::new(seed);
+        let letters = random::letters(r);
+        let whole = random::file(r, &letters);
+        if let Err(fault) = plain::read(&random::damaged(r, whole)) {
+            *met.entry(fault.number).or_insert(0) += 1;
+        }
+    }
+    for number in (1..=9).chain(32..=34) {
+        assert!(met.get(&number) > Some(&5), "{number}: {met:?}");
+    }
 }
 
 fn number_from(name: &str, otherwise: u64) -> u64 {

@@ -1,5 +1,5 @@
-//! Every limit of the requirements: a file, a couple or a join just at it, and one just beyond it. And which bytes stand for one
-//! letter: every byte beside every other.
+//! Every limit of the requirements: a file, a couple or a join just at it, and one just beyond it. And the fields of an arc: every
+//! byte in each, and several wrong at once. And which bytes stand for one letter: every byte beside every other.
 
 mod common;
 
@@ -67,8 +67,109 @@ fn number<T, E: Into<engine::Refusal>>(answer: Result<T, E>) -> u8 {
 #[test]
 fn operations_of_an_arc() {
     assert_eq!(number(engine::read(&sized(1, 1, 1, 8))), 0);
-    assert_eq!(number(engine::read(&sized(1, 1, 1, 9))), 7);
-    assert_eq!(number(engine::read(&sized(1, 1, 1, 0))), 7);
+    assert_eq!(number(engine::read(&sized(1, 1, 1, 9))), 34);
+    assert_eq!(number(engine::read(&sized(1, 1, 1, 0))), 34);
+}
+
+/// The file T of samples/, which has three letters and three states, with these bytes at these places. Its arcs have six bytes each: the
+/// first begins at 18, the last at 42.
+fn spoiled(bytes: &[(usize, u8)]) -> Vec<u8> {
+    let mut file = include_bytes!("../../samples/T.mlb").to_vec();
+    for &(place, byte) in bytes {
+        file[place] = byte;
+    }
+    file
+}
+
+/// What is told where the from-state, the letter, the to-state or the number of operations is wrong.
+const FIELDS: [engine::Reason; 4] = [
+    engine::Reason::ArcSource,
+    engine::Reason::ArcLetter,
+    engine::Reason::ArcTarget,
+    engine::Reason::ArcOperations,
+];
+
+/// The number and the place of a file's fault, if it has one.
+fn fault_of(file: &[u8]) -> Option<(u8, usize)> {
+    engine::read(file)
+        .err()
+        .map(|fault| (fault.reason.number(), fault.place))
+}
+
+#[test]
+fn every_byte_in_every_field_of_an_arc() {
+    assert_eq!(FIELDS.map(engine::Reason::number), [7, 32, 33, 34]);
+    // More operations than one take bytes of the next arc, where a 1 is read in register 0, or are not there.
+    for (arc, more_operations) in [(18, (8, 24)), (42, (1, 46))] {
+        for byte in 0..=255 {
+            let expected = [
+                (byte >= 3).then_some((7, arc)),
+                (3..255).contains(&byte).then_some((32, arc + 1)),
+                (byte >= 3).then_some((33, arc + 2)),
+                match byte {
+                    1 => None,
+                    2..=8 => Some(more_operations),
+                    _ => Some((34, arc + 3)),
+                },
+            ];
+            for (i, expected) in expected.into_iter().enumerate() {
+                let file = spoiled(&[(arc + i, byte)]);
+                assert_eq!(fault_of(&file), expected, "byte {byte:02X} at {arc} + {i}");
+            }
+        }
+    }
+}
+
+/// The fields are looked at from left to right, once all four are there, and before the operations are wanted or looked at.
+#[test]
+fn of_several_wrong_fields_the_first_is_told() {
+    for p in [0, 9] {
+        let wrong = [3, 3, 3, p];
+        for chosen in 1..16u32 {
+            let bytes: Vec<(usize, u8)> = (0..4)
+                .filter(|i| chosen >> i & 1 == 1)
+                .map(|i| (42 + i, wrong[i]))
+                .collect();
+            let file = spoiled(&bytes);
+            let first = chosen.trailing_zeros() as usize;
+            let expected = Some((FIELDS[first].number(), 42 + first));
+            assert_eq!(fault_of(&file), expected, "{bytes:?}");
+            assert_eq!(fault_of(&file[..47]), expected, "{bytes:?}");
+            assert_eq!(fault_of(&file[..46]), expected, "{bytes:?}");
+            assert_eq!(fault_of(&file[..45]), Some((1, 42)), "{bytes:?}");
+            let operation = [bytes.as_slice(), &[(46, 0x21)]].concat();
+            assert_eq!(fault_of(&spoiled(&operation)), expected, "{bytes:?}");
+        }
+    }
+    assert_eq!(fault_of(&spoiled(&[])), None);
+    assert_eq!(fault_of(&spoiled(&[])[..46]), Some((1, 46)));
+    assert_eq!(fault_of(&spoiled(&[(46, 0x21)])), Some((8, 46)));
+    // An arc is read to its end before the next one is.
+    assert_eq!(fault_of(&spoiled(&[(21, 9), (24, 3)])), Some((34, 21)));
+    assert_eq!(fault_of(&spoiled(&[(22, 0x21), (24, 3)])), Some((8, 22)));
+}
+
+#[test]
+fn every_call_tells_which_field_of_an_arc_is_wrong() {
+    let whole = spoiled(&[]);
+    let mut work = engine::working_words();
+    let mut out = [0xA5; 200];
+    for (i, reason) in FIELDS.into_iter().enumerate() {
+        let file = spoiled(&[(18 + i, 9)]);
+        let first = refusal(reason, Some(engine::Automaton::First));
+        let second = refusal(reason, Some(engine::Automaton::Second));
+        assert_eq!(engine::accepts(&file, b"cc", &mut work), Err(first));
+        assert_eq!(engine::count_words(&file, 3, &mut work), Err(first));
+        assert_eq!(engine::unfold(&file, &mut work, &mut out), Err(first));
+        assert_eq!(engine::close(&file, &mut out), Err(first));
+        for (join, _) in JOINS {
+            assert_eq!(join(&file, &whole, &mut out), Err(first));
+            assert_eq!(join(&whole, &file, &mut out), Err(second));
+        }
+        assert_eq!(compared(&file, &whole), Err(first));
+        assert_eq!(compared(&whole, &file), Err(second));
+    }
+    assert_eq!(out, [0xA5; 200]);
 }
 
 #[test]

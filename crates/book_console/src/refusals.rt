@@ -1,38 +1,12 @@
-// A refusal in words: document 01's numbers 1 to 11 and 21 to 25, and document 02's 31.
+// A refusal in words: what its number means, and where the fault of a file stands.
 use super::files::save_front;
 use super::words::say;
 use super::words::say_argument;
 use super::words::say_number;
 use file_writing::Written;
+use format::Reading;
 
-// What a fault of a file, 1 to 9, means. Cost: the text.
-fn say_fault(file: i32, number: u8) -> bool {
-    match number {
-        1 => say(file, b"the file ends inside a field"),
-        2 => say(file, b"the file does not begin with the mark MLB"),
-        3 => say(file, b"the version is not 1"),
-        4 => say(
-            file,
-            b"a count is out of its range: letters 0 to 64, states 1 to 256, registers 1 to 8, symbols 1 to 16, arcs 0 to 2048",
-        ),
-        5 => say(
-            file,
-            b"the letters do not ascend strictly, or a letter stands there as a capital and as a small letter",
-        ),
-        6 => say(file, b"a final flag is neither 00 nor 01"),
-        7 => say(
-            file,
-            b"an arc's state, letter or number of operations is out of its range: states and letters below their counts, or letter FF; operations 1 to 8",
-        ),
-        8 => say(
-            file,
-            b"an operation is not one: kind 0 or 1, register and symbol below their counts, register 0 only with the read of symbol 0",
-        ),
-        _ => say(file, b"bytes follow the last arc"),
-    }
-}
-
-// What a refusal of a call with valid files means. Cost: the text.
+// What a refusal means that is no fault of a file. Cost: the text.
 fn say_limit(file: i32, number: u8) -> bool {
     match number {
         10 => say(
@@ -65,46 +39,120 @@ fn say_limit(file: i32, number: u8) -> bool {
     }
 }
 
-// What a refusal's number means. Cost: the text.
+// What a refusal's number means; the faults of a file stand here in the order of reading. Cost: the text.
 pub fn say_meaning(file: i32, number: u8) -> bool {
-    if number >= 1 && number <= 9 {
-        say_fault(file, number)
-    } else {
-        say_limit(file, number)
+    match number {
+        1 => say(file, b"the file ends inside a field"),
+        2 => say(file, b"the file does not begin with the mark MLB"),
+        3 => say(file, b"the version is not 1"),
+        4 => say(
+            file,
+            b"a count is out of its range: letters 0 to 64, states 1 to 256, registers 1 to 8, symbols 1 to 16, arcs 0 to 2048",
+        ),
+        5 => say(
+            file,
+            b"the letters do not ascend strictly, or a letter stands there as a capital and as a small letter",
+        ),
+        6 => say(file, b"a final flag is neither 00 nor 01"),
+        7 => say(
+            file,
+            b"an arc's from-state, its first byte, is not below the number of states",
+        ),
+        32 => say(
+            file,
+            b"an arc's letter, its second byte, is neither below the number of letters nor FF",
+        ),
+        33 => say(
+            file,
+            b"an arc's to-state, its third byte, is not below the number of states",
+        ),
+        34 => say(
+            file,
+            b"an arc's number of operations, its fourth byte, is not 1 to 8",
+        ),
+        8 => say(
+            file,
+            b"an operation is not one: kind 0 or 1, register and symbol below their counts, register 0 only with the read of symbol 0",
+        ),
+        9 => say(file, b"bytes follow the last arc"),
+        _ => say_limit(file, number),
     }
 }
 
-// The name of the file at fault and a colon; nothing where no single file is at fault. Cost: the text.
-fn say_automaton(automaton: u8, first: usize, second: usize) {
-    match automaton {
-        1 => {
-            say_argument(2, first);
-            say(2, b": ");
-        }
-        2 => {
-            say_argument(2, second);
-            say(2, b": ");
-        }
-        _ => {}
-    }
-}
-
-// Tells a refusal on standard error: the file at fault, the number, and what it means. `first` and `second` are the arguments that
-// name the first and the second file. Cost: the line.
-pub fn tell_refusal(number: u8, automaton: u8, first: usize, second: usize) {
-    say_automaton(automaton, first, second);
+// That a call was refused, and the number. Cost: the text.
+fn say_refused(number: u8) {
     say(2, b"refused with ");
     say_number(2, number as u64);
+}
+
+// What the number means, at the end of the line. Cost: the text.
+fn say_reason(number: u8) {
     say(2, b": ");
     say_meaning(2, number);
     say(2, b"\n");
 }
 
-// Writes the file that a call answered to the file that the argument `result` names, or tells the refusal.
-// `out` is the output that the call was lent. Cost: one pass over the file, or the line of the refusal.
-pub fn finish(answer: Written, out: &[u8], first: usize, second: usize, result: usize) {
+// Where the first fault of a file stands, in bytes from its start; nothing of a valid file, which is refused for its configurations or
+// its plain arcs.
+// Cost: that of `format::read`, and the text.
+fn say_place(file: &[u8]) {
+    match format::read(file) {
+        Reading::Valid(_) => {}
+        Reading::Refused(_, place) => {
+            say(2, b" at byte ");
+            say_number(2, place as u64);
+        }
+    }
+}
+
+// Tells a refusal of one file, which the argument names. Cost: that of `say_place`, and the line.
+fn tell_of_file(number: u8, argument: usize, file: &[u8]) {
+    say_argument(2, argument);
+    say(2, b": ");
+    say_refused(number);
+    say_place(file);
+    say_reason(number);
+}
+
+// Tells a refusal where no single file is at fault. Cost: the line.
+fn tell_of_no_file(number: u8) {
+    say_refused(number);
+    say_reason(number);
+}
+
+// Tells a refusal on standard error: the file at fault, the number, the place of the fault, and what the number means. The arguments
+// `first_name` and `second_name` name the first and the second file, and `first` and `second` are their bytes; of a call with one file
+// both are that one. Cost: the line, and that of reading the file at fault once more.
+pub fn tell_refusal(
+    number: u8,
+    automaton: u8,
+    first_name: usize,
+    second_name: usize,
+    first: &[u8],
+    second: &[u8],
+) {
+    match automaton {
+        1 => tell_of_file(number, first_name, first),
+        2 => tell_of_file(number, second_name, second),
+        _ => tell_of_no_file(number),
+    }
+}
+
+// Writes the file that a call answered to the file that the argument `result` names, or tells the refusal as `tell_refusal` does.
+// `out` is the output that the call was lent. Cost: one pass over the file, or that of `tell_refusal`.
+pub fn finish(
+    answer: Written,
+    out: &[u8],
+    first_name: usize,
+    second_name: usize,
+    result: usize,
+    first: &[u8],
+    second: &[u8],
+) {
     match answer {
         Written::Bytes(n) => save_front(result, out, n),
-        Written::Refused(number, automaton) => tell_refusal(number, automaton, first, second),
+        Written::Refused(number, automaton) => {
+            tell_refusal(number, automaton, first_name, second_name, first, second)
+        }
     }
 }

@@ -64,24 +64,24 @@ fn say_line(answer: &[u8], live: u64, word: &[u8]) -> bool {
 }
 
 // Tells an answer, and answers whether the run goes on: it ends at a refusal, and where the answer cannot be written.
-// Cost: the line.
-fn tell(answer: Membership, word: &[u8]) -> bool {
+// Cost: the line, and of a refusal that of `tell_refusal`.
+fn tell(answer: Membership, file: &[u8], word: &[u8]) -> bool {
     match answer {
         Membership::Accepted(live) => say_line(b"accepted ", live, word),
         Membership::Rejected(live) => say_line(b"rejected ", live, word),
         Membership::Refused(number, automaton) => {
-            tell_refusal(number, automaton, 1, 1);
+            tell_refusal(number, automaton, 1, 1, file, file);
             false
         }
     }
 }
 
-// Judges the word of the first n bytes of a line. Cost: that of `table::accepts`, and the line.
+// Judges the word of the first n bytes of a line. Cost: that of `table::accepts` and of `tell`.
 fn judge(file: &[u8], line: &[u8], n: usize, work: &mut [u64]) -> bool {
     if line.len() < n {
         return false;
     }
-    tell(table::accepts(file, &line[0..n], work), &line[0..n])
+    tell(table::accepts(file, &line[0..n], work), file, &line[0..n])
 }
 
 // One word; false ends the run. Cost: one read for each byte of the line, and that of `judge`.
@@ -96,11 +96,12 @@ fn turn(file: &[u8], line: &mut [u8], work: &mut [u64]) -> bool {
     }
 }
 
-// Whether no word would be refused. The file alone decides that, so the empty word is asked. Cost: that of `table::accepts`.
+// Whether no word would be refused. The file alone decides that, so the empty word is asked. Cost: that of `table::accepts`, and where
+// it is refused that of `tell_refusal`.
 fn is_fit(file: &[u8], line: &[u8], work: &mut [u64]) -> bool {
     match table::accepts(file, &line[0..0], work) {
         Membership::Refused(number, automaton) => {
-            tell_refusal(number, automaton, 1, 1);
+            tell_refusal(number, automaton, 1, 1, file, file);
             false
         }
         _ => true,

@@ -16,14 +16,17 @@ fn say_line(what: &[u8], words: u64) {
     say(1, b"\n");
 }
 
-// Counts the words, and writes both numbers or tells the refusal. Cost: that of `count::count_words`, and the lines.
+// Counts the words, and writes both numbers or tells the refusal. Cost: that of `count::count_words`, and the lines or that of
+// `tell_refusal`.
 fn run(file: &[u8], length: u64, work: &mut [u64]) {
     match count::count_words(file, length, work) {
         WordCount::Counted { accepted, rejected } => {
             say_line(b"accepted ", accepted);
             say_line(b"rejected ", rejected);
         }
-        WordCount::Refused { number, automaton } => tell_refusal(number, automaton, 1, 1),
+        WordCount::Refused { number, automaton } => {
+            tell_refusal(number, automaton, 1, 1, file, file)
+        }
     }
 }
 

@@ -32,8 +32,14 @@ fn join_files(operation: u8, first: &[u8], second: &[u8], out: &mut [u8]) -> Wri
     }
 }
 
-// Joins the two files that are named, by the operation with this number, and writes the result to the file that argument 4 names.
-// Cost: each file is read once, then that of the join and of writing its result.
+// Joins two files by the operation with this number, and writes the result to the file that argument 4 names or tells the refusal.
+// Cost: that of the join and of `finish`.
+fn write_join(operation: u8, first: &[u8], second: &[u8], out: &mut [u8]) {
+    let answer = join_files(operation, first, second, out);
+    finish(answer, out, 2, 3, 4, first, second);
+}
+
+// Joins the two files that are named, by the operation with this number. Cost: each file is read once, and then that of `write_join`.
 fn join_two(operation: u8, out: &mut [u8]) {
     let mut first = [0u8; 41293];
     let mut second = [0u8; 41293];
@@ -43,19 +49,23 @@ fn join_two(operation: u8, out: &mut [u8]) {
     let Loaded::Bytes(b) = load(3, &mut second) else {
         return;
     };
-    let answer = join_files(operation, &first[0..a], &second[0..b], out);
-    finish(answer, out, 2, 3, 4);
+    write_join(operation, &first[0..a], &second[0..b], out);
 }
 
-// Closes the file that is named, and writes the result to the file that argument 3 names.
-// Cost: the file is read once, then that of `join::close` and of writing its result.
+// Closes a file, and writes the result to the file that argument 3 names or tells the refusal.
+// Cost: that of `join::close` and of `finish`.
+fn write_closure(file: &[u8], out: &mut [u8]) {
+    let answer = join::close(file, out);
+    finish(answer, out, 2, 2, 3, file, file);
+}
+
+// Closes the file that is named. Cost: the file is read once, and then that of `write_closure`.
 fn close_one(out: &mut [u8]) {
     let mut first = [0u8; 41293];
     let Loaded::Bytes(a) = load(2, &mut first) else {
         return;
     };
-    let answer = join::close(&first[0..a], out);
-    finish(answer, out, 2, 2, 3);
+    write_closure(&first[0..a], out);
 }
 
 // The output has room for the longest file. Cost: that of `join_two` or `close_one`.

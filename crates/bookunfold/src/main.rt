@@ -5,10 +5,10 @@ use book_console::files::load;
 use book_console::refusals::finish;
 use book_console::words::say;
 
-// Unfolds the file, and writes the result or tells the refusal. Cost: that of `unfold::unfold`, and of writing its result.
+// Unfolds the file, and writes the result or tells the refusal. Cost: that of `unfold::unfold` and of `finish`.
 fn run(file: &[u8], work: &mut [u64], out: &mut [u8]) {
     let answer = unfold::unfold(file, work, out);
-    finish(answer, out, 1, 1, 2);
+    finish(answer, out, 1, 1, 2, file, file);
 }
 
 // The output has room for the longest file. Cost: the file is read once, and then that of `run`.

@@ -102,7 +102,7 @@ module _ (first second : List ℕ) where
   abbrev pub behindMemory : List (Bool × ℕ × ℕ)
   behindMemory = pairRefusals first second ++ tableRefusals 256 2048 512 one two
 
-  -- the files: 1 to 9 of the first, of the second, and 10
+  -- the files: a fault of the first, of the second, and 10
   pub files-fault : (old : List ℕ) {n b : ℕ} → filesOf first second ≡ Fault n b → Answers 256 512 behindMemory one two old old (Refused n b)
   files-fault old e = record { answer = sym (files-refused first second Refused (tableRefusals 256 2048 512 one two) (answerOf (verdict one two 256 512)) e); buffer = refl }
 

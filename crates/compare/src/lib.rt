@@ -53,9 +53,9 @@ fn compare_files(
 // Do the automata of two files accept the same words? Where they do not, the first word that exactly one accepts stands at the front of
 // the word buffer, in the first file's bytes, and what was lent behind it is as it was; else all of the buffer is. Words come in order by
 // their length, and then by the places of their letters in the letter list. Refuses, in this order: fewer than 8,192 working words or a
-// buffer of fewer than 512 bytes, 24; a fault of the first file, 1 to 9; of the second; letter lists that do not agree, 10; more than 256
-// configurations of the first, 21, or more than 2,048 plain arcs, 22; the same of the second; more than 512 pairs, 23. One thing is free:
-// what the working words hold afterwards.
+// buffer of fewer than 512 bytes, 24; a fault of the first file, as `format::read` tells it; of the second; letter lists that do not
+// agree, 10; more than 256 configurations of the first, 21, or more than 2,048 plain arcs, 22; the same of the second; more than 512
+// pairs, 23. One thing is free: what the working words hold afterwards.
 // Cost: b + k * o + k * k + n * (p + a) steps, where b is the number of bytes of the files, o that of their arcs and operations, k that of
 // their configurations, p that of their plain arcs, a that of the letters and n that of the pairs; and as many more as pairs, or
 // configurations, have the key of one that is looked up. Nothing is allocated.

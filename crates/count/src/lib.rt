@@ -93,10 +93,11 @@ fn count_valid(file: &[u8], c: Counts, w: &mut [u64], size: u64) -> WordCount
 }
 
 // How many words of `size` letters does the automaton of the file accept, and how many not? A word counts once, however many runs spell
-// it. Refuses, in this order: fewer than 8,192 working words, 24 (the automaton at fault is 0); a fault of the file, 1 to 9; a size above
-// 64, or more words of that size than 18,446,744,073,709,551,615, 31 (0); more than 256 configurations, 21; words of all lengths that lead to
-// more than 512 live sets, 23 (0). The working words are free again afterwards, whatever they held before. Each live set is found once; then,
-// letter after letter of the length, each has as many accepted words as the sets that its letters lead to have together.
+// it. Refuses, in this order: fewer than 8,192 working words, 24 (the automaton at fault is 0); a fault of the file, as `format::read`
+// tells it; a size above 64, or more words of that size than 18,446,744,073,709,551,615, 31 (0); more than 256 configurations, 21; words
+// of all lengths that lead to more than 512 live sets, 23 (0). The working words are free again afterwards, whatever they held before.
+// Each live set is found once; then, letter after letter of the length, each has as many accepted words as the sets that its letters lead
+// to have together.
 // Cost: b + k * o + k * k + n * (2 * s + a) + size * n * a steps, where b is the number of bytes of the file, o that of its arcs and
 // operations, k that of its configurations, n that of its live sets, a that of its letters and s what a step by all letters takes: the plain
 // arcs of the live configurations, or where there are more than 2,048 the arcs and operations that leave their states. Where (n + 1) * a is

@@ -20,13 +20,13 @@ fn say_line(sign: &[u8], word: &[u8]) {
     say(1, b"\n");
 }
 
-// Judges a word. `argument` names the file. Cost: that of `table::accepts`, and the line.
+// Judges a word. `argument` names the file. Cost: that of `table::accepts`, and the line or that of `tell_refusal`.
 fn judge(argument: usize, file: &[u8], word: &[u8], work: &mut [u64]) {
     match table::accepts(file, word, work) {
         Membership::Accepted(_) => say_line(b"+", word),
         Membership::Rejected(_) => say_line(b"-", word),
         Membership::Refused(number, automaton) => {
-            tell_refusal(number, automaton, argument, argument);
+            tell_refusal(number, automaton, argument, argument, file, file);
         }
     }
 }

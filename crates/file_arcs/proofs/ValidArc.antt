@@ -14,7 +14,7 @@ use Rattle.file_fields.proofs.Laws.{Hold, valid-hold}
 pub record ArcSeen (c : Counts) (l : List ℕ) : Type 0 where
   pub fields : Hold (fieldTests c 0 l)
   pub whole : arcSize l ≤ length l
-  pub ops : wellOps c (getD l 3 0) (drop 4 l) ≡ true
+  pub ops : wellOps c (getD l 1 0) (getD l 3 0) (drop 4 l) ≡ true
 
 pub arc-seen : (c : Counts) (at : ℕ) (l : List ℕ) → Hold (arcTests c at l) → ArcSeen c l
 arc-seen c at l h =

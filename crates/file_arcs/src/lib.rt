@@ -2,7 +2,7 @@
 // which costs no branch: what they look at is there.
 ghost use mathlib.Core.Path.{_≡_};
 ghost use mathlib.Core.Bool.{true};
-ghost use Prim.Native.Nat.{_+_, _*_, _<_, _≤_};
+ghost use Prim.Native.Nat.{ℕ, _+_, _*_, _<_, _≤_};
 ghost use lib.ListN.{length, getD, drop};
 ghost use Rattle.file_fields.specs.Parts.{fieldTests, wellOp, wellOps, opsFront, arcTests, arcsTests, allHold, firstFault};
 use file_fields::Counts;
@@ -12,29 +12,26 @@ use file_fields::fields::byte;
 use file_fields::fields::operation_kind;
 use file_fields::fields::operation_register;
 
-// Whether the two bytes at a place are an operation. Cost: constant.
+// Whether the two bytes at a place are an operation, whatever the arc's letter. Cost: constant.
 fn is_operation(c: Counts, s: &[u8], at: usize) -> bool
     requires { ⌜ at + 1 < length (now s) ⌝ }
-    ensures { λ r. ⌜ r ≡ wellOp c (getD (now (s .entry)) at 0) (getD (now (s .entry)) (at + 1) 0) ⌝ }
+    ensures { λ r. ⌜ ((letter : ℕ) → r ≡ wellOp c letter (getD (now (s .entry)) at 0) (getD (now (s .entry)) (at + 1) 0)) ⌝ }
 {
     let x = byte(s, at);
     let symbol = byte(s, at + 1);
-    // Two bytes 00, the only operation where register 0 is the only one, are looked for first.
+    // Two bytes 00, the only operation at register 0, are looked for first.
     if x + symbol == 0 {
         return (0 < c.registers) & (0 < c.symbols);
     }
     let kind = operation_kind(x);
     let register = operation_register(x);
-    (kind <= 1)
-        & (register < c.registers)
-        & (symbol < c.symbols)
-        & ((register != 0) | ((kind == 0) & (symbol == 0)))
+    (kind <= 1) & (register < c.registers) & (symbol < c.symbols) & (register != 0)
 }
 
-// Whether the p pairs of bytes at the front are operations. Cost: at most p.
+// Whether the p pairs of bytes at the front are operations, whatever the arc's letter. Cost: at most p.
 fn are_operations(c: Counts, s: &[u8], p: usize) -> bool
     requires { ⌜ 2 * p ≤ length (now s) ⌝ }
-    ensures { λ r. ⌜ r ≡ wellOps c p (now (s .entry)) ⌝ }
+    ensures { λ r. ⌜ ((letter : ℕ) → r ≡ wellOps c letter p (now (s .entry))) ⌝ }
 {
     let mut i: usize = 0;
     while i < p {
@@ -46,10 +43,10 @@ fn are_operations(c: Counts, s: &[u8], p: usize) -> bool
     true
 }
 
-// How many of the p pairs of bytes at the front are operations, up to the first that is none. Cost: at most p.
+// How many of the p pairs of bytes at the front are operations, up to the first that is none, whatever the arc's letter. Cost: at most p.
 fn operations_front(c: Counts, s: &[u8], p: usize) -> usize
     requires { ⌜ 2 * p ≤ length (now s) ⌝ }
-    ensures { λ r. ⌜ r ≡ opsFront c p (now (s .entry)) ⌝ }
+    ensures { λ r. ⌜ ((letter : ℕ) → r ≡ opsFront c letter p (now (s .entry))) ⌝ }
 {
     let mut i: usize = 0;
     while i < p {
@@ -80,19 +77,24 @@ fn field_fault(c: Counts, s: &[u8], at: usize) -> Reading
     requires { ⌜ (4 ≤ length (now s)) × (at + length (now s) < 18446744073709551616) ⌝ }
     ensures { λ r. ⌜ r ≡ firstFault (fieldTests c at (now (s .entry))) c ⌝ }
 {
+    // All four are there, so all are read first; then each is tested as in `fieldTests`.
+    let letters = c.letters;
+    let states = c.states;
+    let from = byte(s, 0);
     let letter = byte(s, 1);
+    let to = byte(s, 2);
     let operations = byte(s, 3);
-    if c.states <= byte(s, 0) {
+    if !(from < states) {
         return Reading::Refused(7, at);
     }
-    if !((letter == 255) | (letter < c.letters)) {
-        return Reading::Refused(7, at + 1);
+    if !((letter == 255) | (letter < letters)) {
+        return Reading::Refused(32, at + 1);
     }
-    if c.states <= byte(s, 2) {
-        return Reading::Refused(7, at + 2);
+    if !(to < states) {
+        return Reading::Refused(33, at + 2);
     }
     if !((1 <= operations) & (operations <= 8)) {
-        return Reading::Refused(7, at + 3);
+        return Reading::Refused(34, at + 3);
     }
     Reading::Valid(c)
 }
@@ -113,9 +115,9 @@ fn is_arc(c: Counts, s: &[u8]) -> bool
     are_operations(c, &s[4..], byte(s, 3))
 }
 
-// The first fault of the arc at the front, else the counts. The arc stands at the place `at` of the file.
+// The counts, or the first fault of the arc at the front, which stands at the place `at` of the file.
 // Cost: at most its operations.
-fn arc_fault(c: Counts, s: &[u8], at: usize) -> Reading
+pub fn read_arc(c: Counts, s: &[u8], at: usize) -> Reading
     requires { ⌜ at + length (now s) < 18446744073709551616 ⌝ }
     ensures { λ r. ⌜ r ≡ firstFault (arcTests c at (now (s .entry))) c ⌝ }
 {
@@ -164,7 +166,7 @@ fn arcs_fault(c: Counts, file: &[u8], from: usize) -> Reading
     let mut at = from;
     let mut i: usize = 0;
     while i < c.arcs {
-        let arc = arc_fault(c, &file[at..], at);
+        let arc = read_arc(c, &file[at..], at);
         let Reading::Valid(_) = arc else {
             return arc;
         };

@@ -66,15 +66,15 @@ ascending-end s i h = short (drop i s) (simp length-drop (omega arith)) ∙ leng
     short (x ∷ []) h = refl
     short (x ∷ y ∷ l) h = absurd (omega arith)
 
-module _ (c : Counts) (p i : ℕ) where
+module _ (c : Counts) (letter p i : ℕ) where
   pub ops-at : (s : List ℕ) → i < p
-      → opsFront c (p - i) (drop (2 * i) s) ≡ cond (wellOp c (getD s (2 * i) 0) (getD s (2 * i + 1) 0)) (suc (opsFront c (p - (i + 1)) (drop (2 * (i + 1)) s))) 0
+      → opsFront c letter (p - i) (drop (2 * i) s) ≡ cond (wellOp c letter (getD s (2 * i) 0) (getD s (2 * i + 1) 0)) (suc (opsFront c letter (p - (i + 1)) (drop (2 * (i + 1)) s))) 0
   unfolding opsFront
   ops-at s h =
       let f : 2 * (i + 1) ≡ 2 * i + 2 = omega arith in
       rw (down p i h, f, drop-drop 2 (2 * i) s, getD-drop (2 * i) s 0 0, getD-drop (2 * i) s 1 0, add-zero)
 
-  pub ops-end : (l : List ℕ) → p ≤ i → opsFront c (p - i) l ≡ 0
+  pub ops-end : (l : List ℕ) → p ≤ i → opsFront c letter (p - i) l ≡ 0
   unfolding opsFront
   ops-end l h = rw (none-left p i h)
 
@@ -105,10 +105,10 @@ unfolding flags flagsFront
 flags-all [] = refl
 flags-all (x ∷ l) = one-more (length l) (flagsFront l) (leb x 1) (flags-all l)
 
-pub ops-all : (c : Counts) (p : ℕ) (l : List ℕ) → wellOps c p l ≡ leb p (opsFront c p l)
+pub ops-all : (c : Counts) (letter p : ℕ) (l : List ℕ) → wellOps c letter p l ≡ leb p (opsFront c letter p l)
 unfolding wellOps opsFront
-ops-all c zero l = refl
-ops-all c (suc p) l = one-more p (opsFront c p (drop 2 l)) (wellOp c (getD l 0 0) (getD l 1 0)) (ops-all c p (drop 2 l))
+ops-all c letter zero l = refl
+ops-all c letter (suc p) l = one-more p (opsFront c letter p (drop 2 l)) (wellOp c letter (getD l 0 0) (getD l 1 0)) (ops-all c letter p (drop 2 l))
 
 -- ---- the arcs that are left
 module _ (m i : ℕ) (c : Counts) (at : ℕ) (s : List ℕ) where

@@ -1,5 +1,5 @@
 -- TestLaws: what tests that hold say, joined by &&, or one after the other with their numbers and places.
-use mathlib.Core.Path.{_≡_, refl, sym, _∙_}
+use mathlib.Core.Path.{_≡_, ap, refl, sym, _∙_}
 use mathlib.Core.Bool.{Bool, true, false, not, _&&_}
 use mathlib.Core.List.{List, [], _∷_, _++_}
 use Prim.Native.Nat.{ℕ}
@@ -90,3 +90,16 @@ unfolding firstFault
 fault-append [] r c = refl
 fault-append ((true, n, p) ∷ l) r c = fault-append l r c
 fault-append ((false, n, p) ∷ l) r c = refl
+
+module _ (l : List (Bool × ℕ × ℕ)) (c : Counts) where
+  -- where all before them hold, they decide ..
+  pub goes-on : {d : Counts} → firstFault l c ≡ Valid d → (r : List (Bool × ℕ × ℕ)) → firstFault (l ++ r) c ≡ firstFault r c
+  goes-on e r = fault-append l r c ∙ ap (λ a. andThen a (firstFault r c)) e
+
+  -- .. of the counts that those answered
+  pub goes-on-with : {d : Counts} → firstFault l c ≡ Valid d → (r : Counts → List (Bool × ℕ × ℕ)) → firstFault (l ++ r c) c ≡ firstFault (r d) d
+  goes-on-with e r = goes-on e (r c) ∙ ap (λ (k : Counts). firstFault (r k) k) (valid-hold l c e .1)
+
+  -- where one before them fails, it decides
+  pub stops : {n place : ℕ} → firstFault l c ≡ Refused n place → (r : List (Bool × ℕ × ℕ)) → firstFault (l ++ r) c ≡ Refused n place
+  stops e r = fault-append l r c ∙ ap (λ a. andThen a (firstFault r c)) e

@@ -1,7 +1,7 @@
 -- Parts: the tests of the parts of a file, each with the number of the fault where it fails and its place, in bytes from the file's
 -- start; and what the first that fails answers. Where the file ends inside a part, the place is where that part begins.
--- Renders document 01, 'The book file' and 'Refused because of what was handed in', 1 to 9, with document 02, change 4;
--- format's specs/Reading.antt puts the parts together.
+-- Renders document 01, 'The book file' and 'Refused because of what was handed in' where it speaks of one file, with document 02, changes
+-- 4 and 5; format's specs/Reading.antt puts the parts together.
 use mathlib.Core.Bool.{Bool, true, not, cond, _||_, _&&_}
 use mathlib.Core.List.{List, [], _∷_, _++_}
 use Prim.Native.Nat.{ℕ, zero, suc, _+_, _*_, _/_, _%_}
@@ -111,33 +111,33 @@ flagTests c s =
     ∷ []
 
 -- ---- an arc, at the front of l, which stands at the place `at` of the file
--- 7 its from-state, letter (FF is the empty move), to-state, number p of operations (1 to 8)
+-- 7 its from-state; 32 its letter, FF being the empty move; 33 its to-state; 34 its number p of operations, 1 to 8
 abbrev pub fieldTests : Counts → ℕ → List ℕ → List (Bool × ℕ × ℕ)
 fieldTests c at l =
     (ltb (getD l 0 0) (c .states), 7, at)
-    ∷ (eqb (getD l 1 0) 255 || ltb (getD l 1 0) (c .letters), 7, at + 1)
-    ∷ (ltb (getD l 2 0) (c .states), 7, at + 2)
-    ∷ (leb 1 (getD l 3 0) && leb (getD l 3 0) 8, 7, at + 3)
+    ∷ (eqb (getD l 1 0) 255 || ltb (getD l 1 0) (c .letters), 32, at + 1)
+    ∷ (ltb (getD l 2 0) (c .states), 33, at + 2)
+    ∷ (leb 1 (getD l 3 0) && leb (getD l 3 0) 8, 34, at + 3)
     ∷ []
 
--- an operation: its first byte x is kind times 16 plus register, its second byte y a symbol;
--- register 0 admits only a read of 0
-abbrev pub wellOp : Counts → ℕ → ℕ → Bool
-wellOp c x y =
+-- an operation of an arc whose letter byte is `letter`, on which nothing hangs in version 1: its first byte x is kind times 16 plus
+-- register, its second byte y a symbol; register 0 admits only a read of 0
+abbrev pub wellOp : Counts → (letter x y : ℕ) → Bool
+wellOp c letter x y =
     leb (x / 16) 1
     && ltb (x % 16) (c .registers)
     && ltb y (c .symbols)
     && (not (eqb (x % 16) 0) || (eqb (x / 16) 0 && eqb y 0))
 
 -- p of them
-unfoldable pub wellOps : Counts → ℕ → List ℕ → Bool
-wellOps c zero l = true
-wellOps c (suc p) l = wellOp c (getD l 0 0) (getD l 1 0) && wellOps c p (drop 2 l)
+unfoldable pub wellOps : Counts → (letter p : ℕ) → List ℕ → Bool
+wellOps c letter zero l = true
+wellOps c letter (suc p) l = wellOp c letter (getD l 0 0) (getD l 1 0) && wellOps c letter p (drop 2 l)
 
 -- how many of them at the front are operations
-unfoldable pub opsFront : Counts → ℕ → List ℕ → ℕ
-opsFront c zero l = 0
-opsFront c (suc p) l = cond (wellOp c (getD l 0 0) (getD l 1 0)) (suc (opsFront c p (drop 2 l))) 0
+unfoldable pub opsFront : Counts → (letter p : ℕ) → List ℕ → ℕ
+opsFront c letter zero l = 0
+opsFront c letter (suc p) l = cond (wellOp c letter (getD l 0 0) (getD l 1 0)) (suc (opsFront c letter p (drop 2 l))) 0
 
 -- how many bytes an arc takes: four, and two for each operation
 abbrev pub arcSize : List ℕ → ℕ
@@ -147,7 +147,7 @@ arcSize l = 4 + 2 * getD l 3 0
 abbrev pub operationTests : Counts → ℕ → List ℕ → List (Bool × ℕ × ℕ)
 operationTests c at l =
     (leb (arcSize l) (length l), 1, at + 4)
-    ∷ (wellOps c (getD l 3 0) (drop 4 l), 8, at + 4 + 2 * opsFront c (getD l 3 0) (drop 4 l))
+    ∷ (wellOps c (getD l 1 0) (getD l 3 0) (drop 4 l), 8, at + 4 + 2 * opsFront c (getD l 1 0) (getD l 3 0) (drop 4 l))
     ∷ []
 
 -- 1 an arc wants 4 bytes; its fields; its operations

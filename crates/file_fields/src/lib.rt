@@ -16,7 +16,7 @@ pub struct Counts {
     pub arcs: usize,
 }
 
-// What reading a file answers: its counts, or the number of its first fault (1 to 9) and its place, in bytes from the file's start.
+// What reading a file answers: its counts, or the number of its first fault and its place, in bytes from the file's start.
 pub enum Reading {
     Valid(Counts),
     Refused(u8, usize),

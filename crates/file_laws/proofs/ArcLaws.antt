@@ -31,7 +31,7 @@ unfolding KeepsZero
 write-keeps zero y h = h refl
 write-keeps (suc r) y h = tt
 
-module _ (c : Counts) (x y : ℕ) (e : wellOp c x y ≡ true) where
+module _ (c : Counts) (letter x y : ℕ) (e : wellOp c letter x y ≡ true) where
   abbrev zero-test : Bool
   zero-test = not (eqb (x % 16) 0) || (eqb (x / 16) 0 && eqb y 0)
 
@@ -58,15 +58,15 @@ module _ (c : Counts) (x y : ℕ) (e : wellOp c x y ≡ true) where
       go true f = rw f (record { inside = op-inside; small = op-small; zero-kept = read-keeps (x % 16) y (λ z. eqb-true y 0 (op-zero z .1)) })
       go false f = rw f (record { inside = op-inside; small = op-small; zero-kept = write-keeps (x % 16) y (λ z. eqb-false (x / 16) 0 f (eqb-true (x / 16) 0 (op-zero z .0))) })
 
-ops-fit : (c : Counts) (p : ℕ) (l : List ℕ) → c .symbols ≤ 16 → wellOps c p l ≡ true → Each (OpFits c) (opsOf p l) × OkOps (c .registers) p l
+ops-fit : (c : Counts) (letter p : ℕ) (l : List ℕ) → c .symbols ≤ 16 → wellOps c letter p l ≡ true → Each (OpFits c) (opsOf p l) × OkOps (c .registers) p l
 unfolding wellOps opsOf OkOps
-ops-fit c zero l g e = (tt, tt)
-ops-fit c (suc p) l g e =
+ops-fit c letter zero l g e = (tt, tt)
+ops-fit c letter (suc p) l g e =
     let x = getD l 0 0 in
     let y = getD l 1 0 in
-    let b = and-both (wellOp c x y) (wellOps c p (drop 2 l)) e in
-    let rest = ops-fit c p (drop 2 l) g (b .1) in
-    ((op-fits c x y (b .0), rest .0), (op-inside c x y (b .0), omega (arith, op-small c x y (b .0)), rest .1))
+    let b = and-both (wellOp c letter x y) (wellOps c letter p (drop 2 l)) e in
+    let rest = ops-fit c letter p (drop 2 l) g (b .1) in
+    ((op-fits c letter x y (b .0), rest .0), (op-inside c letter x y (b .0), omega (arith, op-small c letter x y (b .0)), rest .1))
 
 pub ops-count : (p : ℕ) (l : List ℕ) → length (opsOf p l) ≡ p
 unfolding opsOf
@@ -95,7 +95,7 @@ arc-fits c l g a =
       target = ltb-true _ _ (h .1 .1 .0);
       some-op = rw count (leb-true _ _ (few .0));
       few-ops = rw count (leb-true _ _ (few .1));
-      ops = ops-fit c p (drop 4 l) g (a .ops) .0;
+      ops = ops-fit c (getD l 1 0) p (drop 4 l) g (a .ops) .0;
     }
 
 -- ---- all arcs
@@ -115,7 +115,7 @@ arcs-seen c (suc m) at l g h =
     let f = arc-fits c l g a in
     record {
       fit = (f, r .fit);
-      ok = (few f, ops-fit c (getD l 3 0) (drop 4 l) g (a .ops) .1, r .ok);
+      ok = (few f, ops-fit c (getD l 1 0) (getD l 3 0) (drop 4 l) g (a .ops) .1, r .ok);
       all = omega (arith, r .all, length-drop (arcSize l) l, a .whole);
     }
   where

@@ -23,27 +23,27 @@ use Rattle.file_laws.proofs.ArcLaws.{op-kind, ops-count}
 use Rattle.file_laws.proofs.ValidLaws.{FileSeen, file-seen, decoded-sizes}
 
 -- ---- an operation
-op-same : (c : Counts) (x y : ℕ) → wellOp c x y ≡ true → opBytes (opOf x y) ≡ x ∷ y ∷ []
+op-same : (c : Counts) (letter x y : ℕ) → wellOp c letter x y ≡ true → opBytes (opOf x y) ≡ x ∷ y ∷ []
 unfolding opOf
-op-same c x y e = go (eqb (x / 16) 0) refl
+op-same c letter x y e = go (eqb (x / 16) 0) refl
   where
     go : (t : Bool) → eqb (x / 16) 0 ≡ t → opBytes (opOf x y) ≡ x ∷ y ∷ []
     go true f = let k = eqb-true (x / 16) 0 f in let g : 0 * 16 + x % 16 ≡ x = omega arith in rw f (ap (λ (n : ℕ). n ∷ y ∷ []) g)
     go false f =
         let n = eqb-false (x / 16) 0 f in
-        let k = op-kind c x y e in
+        let k = op-kind c letter x y e in
         let g : 1 * 16 + x % 16 ≡ x = omega arith in
         rw f (ap (λ (n : ℕ). n ∷ y ∷ []) g)
 
-ops-same : (c : Counts) (p : ℕ) (l : List ℕ) → 2 * p ≤ length l → wellOps c p l ≡ true → opsBytes (opsOf p l) ≡ take (2 * p) l
+ops-same : (c : Counts) (letter p : ℕ) (l : List ℕ) → 2 * p ≤ length l → wellOps c letter p l ≡ true → opsBytes (opsOf p l) ≡ take (2 * p) l
 unfolding wellOps opsOf opsBytes
-ops-same c zero l h e = refl
-ops-same c (suc p) [] h e = absurd (omega arith)
-ops-same c (suc p) (x ∷ []) h e = absurd (omega arith)
-ops-same c (suc p) (x ∷ y ∷ l) h e =
+ops-same c letter zero l h e = refl
+ops-same c letter (suc p) [] h e = absurd (omega arith)
+ops-same c letter (suc p) (x ∷ []) h e = absurd (omega arith)
+ops-same c letter (suc p) (x ∷ y ∷ l) h e =
     let d : 2 * suc p ≡ suc (suc (2 * p)) = omega arith in
-    let b = and-both (wellOp c x y) (wellOps c p l) e in
-    ap (λ t. t ++ opsBytes (opsOf p l)) (op-same c x y (b .0)) ∙ rw (d, ops-same c p l (omega arith) (b .1))
+    let b = and-both (wellOp c letter x y) (wellOps c letter p l) e in
+    ap (λ t. t ++ opsBytes (opsOf p l)) (op-same c letter x y (b .0)) ∙ rw (d, ops-same c letter p l (omega arith) (b .1))
 
 -- ---- an arc
 pub letter-same : (x : ℕ) → letterByte (letterOf x) ≡ x
@@ -62,7 +62,7 @@ arc-same c (s ∷ k ∷ []) a = absurd (omega (arith, a .whole))
 arc-same c (s ∷ k ∷ t ∷ []) a = absurd (omega (arith, a .whole))
 arc-same c (s ∷ k ∷ t ∷ p ∷ l) a =
     let d : drop (4 + 2 * p) (s ∷ k ∷ t ∷ p ∷ l) ≡ drop (2 * p) l = sym (drop-drop (2 * p) 4 (s ∷ k ∷ t ∷ p ∷ l)) in
-    rw (letter-same k, ops-count p l, ops-same c p l (omega (arith, a .whole)) (a .ops), d, take-append-drop (2 * p) l)
+    rw (letter-same k, ops-count p l, ops-same c k p l (omega (arith, a .whole)) (a .ops), d, take-append-drop (2 * p) l)
 
 arcs-same : (c : Counts) (m at : ℕ) (l : List ℕ) → Hold (arcsTests m c at l) → arcsBytes (arcsOf m l) ≡ l
 unfolding arcsTests arcsOf arcsBytes

@@ -44,8 +44,8 @@ few-kinds (reads i γ) = omega arith
 few-kinds (writes i γ) = omega arith
 
 module _ (c : Counts) (n : c .registers ≤ 8) where
-  op-well : (o : Op) → OpFits c o → wellOp c (kind o * 16 + register o) (symbol o) ≡ true
-  op-well o h =
+  op-well : (letter : ℕ) (o : Op) → OpFits c o → wellOp c letter (kind o * 16 + register o) (symbol o) ≡ true
+  op-well letter o h =
       let q = halves o (omega (arith, h .inside)) in
       rw (q .0, q .1, le-leb _ _ (few-kinds o), lt-ltb _ _ (h .inside), lt-ltb _ _ (h .small)) (zero-test o (h .zero-kept))
 
@@ -57,10 +57,10 @@ module _ (c : Counts) (n : c .registers ≤ 8) where
       same (reads i γ) = refl
       same (writes i γ) = refl
 
-  ops-well : (os : List Op) (rest : List ℕ) → Each (OpFits c) os → wellOps c (length os) (opsBytes os ++ rest) ≡ true
+  ops-well : (letter : ℕ) (os : List Op) (rest : List ℕ) → Each (OpFits c) os → wellOps c letter (length os) (opsBytes os ++ rest) ≡ true
   unfolding opsBytes wellOps
-  ops-well [] rest h = refl
-  ops-well (o ∷ os) rest h = rw (op-well o (h .0)) (ops-well os rest (h .1))
+  ops-well letter [] rest h = refl
+  ops-well letter (o ∷ os) rest h = rw (op-well letter o (h .0)) (ops-well letter os rest (h .1))
 
   ops-back : (os : List Op) (rest : List ℕ) → Each (OpFits c) os → opsOf (length os) (opsBytes os ++ rest) ≡ os
   unfolding opsBytes opsOf
@@ -94,7 +94,7 @@ module _ (c : Counts) (r : Ranges c) where
       let e : length (opsBytes (x .ops) ++ rest) ≡ 2 * length (x .ops) + length rest = length-append (opsBytes (x .ops)) rest ∙ ap (λ t. t + length rest) (ops-length (x .ops)) in
       let p = length (x .ops) in
       let few : (leb 1 p && leb p 8) ≡ true = rw (le-leb _ _ (h .some-op), le-leb _ _ (h .few-ops)) in
-      let ops : Hold (operationTests c at (arcBytes x ++ rest)) = (le-leb (4 + 2 * p) k (omega (arith, e)), (ops-well c (r .registers) (x .ops) rest (h .ops), tt)) in
+      let ops : Hold (operationTests c at (arcBytes x ++ rest)) = (le-leb (4 + 2 * p) k (omega (arith, e)), (ops-well c (r .registers) (letterByte (x .letter)) (x .ops) rest (h .ops), tt)) in
       (le-leb 4 k (omega arith), (lt-ltb _ _ (h .source), (letter-well c (x .letter) (h .lettered), (lt-ltb _ _ (h .target), (few, ops)))))
 
   arc-back : (x : Arc) (rest : List ℕ) → ArcFits c x → arcOf (arcBytes x ++ rest) ≡ x

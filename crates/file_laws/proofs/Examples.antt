@@ -1,12 +1,20 @@
--- Examples: document 01's file T, and spoiled copies of it for each number from 1 to 9, computed.
-use mathlib.Core.Path.{_≡_, refl}
-use mathlib.Core.List.{List, [], _∷_, _++_, map}
+-- Examples: document 01's file T, and spoiled copies of it for each number of a file's fault, computed.
+use mathlib.Core.Path.{_≡_, refl, sym, ap, _∙_, subst}
+use mathlib.Core.Bool.{true}
+use mathlib.Core.List.{List, List·Memᴰ, Memᴰ·of-map, [], _∷_, _++_, map}
 use Prim.Native.Nat.{ℕ}
+use lib.Dec.{eqb}
 use lib.ListN.{take, set}
 use Rattle.automata.specs.Examples.{automatonT}
+use Rattle.automata.specs.Lists.{Each, any}
+use Rattle.automata.proofs.Laws.{any-iff, each-mem, eqb-iff}
+use Rattle.file_fields.specs.Parts.{numberOf}
+use Rattle.file_fields.proofs.Laws.{all-hold}
 use Rattle.file_fields.specs.declared.Reading.{Reading}
 use Rattle.file_fields.specs.declared.Reading.the-variants.{Valid, Refused}
 use Rattle.format.specs.Reading.{readingOf}
+use Rattle.format.specs.Refusals.{faultOf}
+use Rattle.file_laws.specs.Wanted.{faultNumbers}
 use Rattle.format.specs.Decoding.{automatonOf}
 use Rattle.format.specs.Encoding.{bytesOf}
 use Rattle.file_laws.specs.Examples.{fileT}
@@ -46,7 +54,7 @@ faults =
     ∷ Refused 4 5 ∷ Refused 4 6 ∷ Refused 4 6 ∷ Refused 4 8 ∷ Refused 4 8 ∷ Refused 4 9 ∷ Refused 4 9 ∷ Refused 4 10
     ∷ Refused 5 13 ∷ Refused 5 12 ∷ Refused 5 13 ∷ Refused 5 12
     ∷ Refused 6 15
-    ∷ Refused 7 18 ∷ Refused 7 19 ∷ Refused 7 20 ∷ Refused 7 21 ∷ Refused 7 21
+    ∷ Refused 7 18 ∷ Refused 32 19 ∷ Refused 33 20 ∷ Refused 34 21 ∷ Refused 34 21
     ∷ Refused 8 22 ∷ Refused 8 22 ∷ Refused 8 22 ∷ Refused 8 22 ∷ Refused 8 34
     ∷ Refused 9 48
     ∷ []
@@ -54,3 +62,14 @@ faults =
 pub refused : map readingOf spoiled ≡ faults
 unfolding readingOf
 refused = refl
+
+-- each number of a file's fault is that of one of them
+each-told : Each (λ b. b ≡ true) (map (λ n. any (λ r. eqb n (numberOf r)) faults) faultNumbers)
+unfolding any
+each-told = all-hold true (map (λ n. any (λ r. eqb n (numberOf r)) faults) faultNumbers) refl .1
+
+pub each-occurs : (n : ℕ) → List·Memᴰ n faultNumbers → (s : List ℕ) × (faultOf s ≡ n)
+each-occurs n m =
+    let one = any-iff (λ r. eqb n (numberOf r)) faults .0 (rw (each-mem (λ (k : ℕ). any (λ r. eqb k (numberOf r)) faults ≡ true) each-told m) tt) in
+    let whose = Memᴰ·of-map readingOf spoiled (subst (λ (l : List Reading). List·Memᴰ (one .0) l) (sym refused) (one .1)) in
+    (whose .0, ap numberOf (whose .2) ∙ sym (eqb-iff n (numberOf (one .0)) .0 (one .2)))

@@ -13,12 +13,12 @@ use Rattle.automata.specs.Letters.{unlike}
 use Rattle.file_fields.specs.declared.Counts.{Counts}
 use Rattle.file_fields.specs.declared.Reading.the-variants.{Valid, Refused}
 use Rattle.file_fields.specs.Parts.{two, marked, countsOf, part, letterBytes, ascending, firstArc, flags, fieldTests, wellOp, wellOps, arcSize, arcTests, arcsTests, headerTests, firstFault}
-use Rattle.format.specs.Reading.{bodyTests, readingOf}
+use Rattle.format.specs.Reading.{readingOf}
 use Rattle.format.specs.Limits.{Ranges}
 use Rattle.automata.proofs.Laws.{each-split}
-use Rattle.file_fields.proofs.Laws.{Hold, Holds, hold-valid}
+use Rattle.file_fields.proofs.Laws.{Hold, Holds, goes-on-with, hold-valid}
 use Rattle.file_arcs.proofs.Laws.{ArcSeen, arc-seen}
-use Rattle.format.proofs.Laws.{HeaderSeen, after-header, seen-header}
+use Rattle.format.proofs.Laws.{HeaderSeen, bodyTests, seen-header}
 use Rattle.file_laws.proofs.ValidLaws.{FileSeen, file-seen}
 
 module _ (t : List ℕ) (more : 0 < length t) where
@@ -39,19 +39,21 @@ module _ (t : List ℕ) (more : 0 < length t) where
   size-front : (l : List ℕ) → 4 ≤ length l → arcSize (l ++ t) ≡ arcSize l
   size-front l h = ap (λ p. 4 + 2 * p) (List·getD-append l t 0 3 (omega arith))
 
-  ops-front : (c : Counts) (p : ℕ) (l : List ℕ) → 2 * p ≤ length l → wellOps c p (l ++ t) ≡ wellOps c p l
+  ops-front : (c : Counts) (letter p : ℕ) (l : List ℕ) → 2 * p ≤ length l → wellOps c letter p (l ++ t) ≡ wellOps c letter p l
   unfolding wellOps
-  ops-front c zero l h = refl
-  ops-front c (suc p) [] h = absurd (omega arith)
-  ops-front c (suc p) (x ∷ []) h = absurd (omega arith)
-  ops-front c (suc p) (x ∷ y ∷ l) h = ap (λ b. wellOp c x y && b) (ops-front c p l (omega arith))
+  ops-front c letter zero l h = refl
+  ops-front c letter (suc p) [] h = absurd (omega arith)
+  ops-front c letter (suc p) (x ∷ []) h = absurd (omega arith)
+  ops-front c letter (suc p) (x ∷ y ∷ l) h = ap (λ b. wellOp c letter x y && b) (ops-front c letter p l (omega arith))
 
   rest-front : (l : List ℕ) → 4 ≤ length l → arcSize l ≤ length l → drop (arcSize (l ++ t)) (l ++ t) ≡ drop (arcSize l) l ++ t
   rest-front l h k = rw (size-front l h) (drop-append-le (arcSize l) l t k)
 
-  arc-ops : (c : Counts) (l : List ℕ) → 4 ≤ length l → arcSize l ≤ length l → wellOps c (getD (l ++ t) 3 0) (drop 4 (l ++ t)) ≡ wellOps c (getD l 3 0) (drop 4 l)
+  arc-ops : (c : Counts) (l : List ℕ) → 4 ≤ length l → arcSize l ≤ length l
+      → wellOps c (getD (l ++ t) 1 0) (getD (l ++ t) 3 0) (drop 4 (l ++ t)) ≡ wellOps c (getD l 1 0) (getD l 3 0) (drop 4 l)
   arc-ops c l h k =
-      rw (List·getD-append l t 0 3 (omega arith), drop-append-le 4 l t h) (ops-front c (getD l 3 0) (drop 4 l) (simp length-drop (omega arith)))
+      rw (List·getD-append l t 0 1 (omega arith), List·getD-append l t 0 3 (omega arith), drop-append-le 4 l t h)
+      (ops-front c (getD l 1 0) (getD l 3 0) (drop 4 l) (simp length-drop (omega arith)))
 
   -- ---- arcs
   module _ (c : Counts) where
@@ -135,9 +137,9 @@ module _ (t : List ℕ) (more : 0 < length t) where
     version-front h = rw (front 3 (omega arith), front 4 (omega arith))
 
     pub longer-refused : (c : Counts) → readingOf s ≡ Valid c → readingOf longer ≡ Refused 9 (length s)
-    unfolding firstFault
+    unfolding readingOf firstFault
     longer-refused c e =
-        after-header longer (hold-valid (headerTests longer) (countsOf longer) (seen-header longer header) ∙ ap Valid (counts-front (f .header .twelve) ∙ f .counts))
+        goes-on-with (headerTests longer) (countsOf longer) (hold-valid (headerTests longer) (countsOf longer) (seen-header longer header) ∙ ap Valid (counts-front (f .header .twelve) ∙ f .counts)) (λ (d : Counts). bodyTests d longer)
         ∙ rw (
           le-leb (12 + c .letters) (length longer) (omega (arith, f .there, more-bytes)),
           ap ascending (part-front 12 (c .letters) s (omega (arith, f .there))) ∙ f .rising,
@@ -209,4 +211,5 @@ module _ (t : List ℕ) (more : 0 < length t) where
         start true g =
             let h = leb-true _ _ g in
             let r = to-flags (leb (12 + c .letters) (length s)) refl in
-            (r .0, after-header s (hold-valid (headerTests s) (countsOf s) (seen-header s (header h)) ∙ ap Valid (sym (counts-front h) ∙ f .counts)) ∙ r .1)
+            let valid = hold-valid (headerTests s) (countsOf s) (seen-header s (header h)) ∙ ap Valid (sym (counts-front h) ∙ f .counts) in
+            (r .0, goes-on-with (headerTests s) (countsOf s) valid (λ (d : Counts). bodyTests d s) ∙ r .1)

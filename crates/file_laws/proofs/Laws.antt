@@ -1,6 +1,8 @@
 -- Laws: the laws of this crate that crates above cite. A law that is not named here may change.
 -- what a caller may rely on, of any list of bytes s that `read` is handed and of any automaton x
 pub use Rattle.file_laws.proofs.Promise.{number-range, place-inside, round-trip, valid-automaton}
+-- no number of a file's fault is 0, and each has at most two digits
+pub use Rattle.file_laws.proofs.FaultLaws.{number-between}
 -- of a file with a fault behind its header, the counts are in their ranges
 pub use Rattle.file_laws.proofs.PlaceLaws.{behind-header}
 -- where each test decides its condition, the first test that holds is the first condition that holds (format's specs/Refusals.antt)

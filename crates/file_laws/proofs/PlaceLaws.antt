@@ -10,9 +10,9 @@ use lib.ListN.{length, getD, drop, length-drop}
 use Rattle.file_fields.specs.declared.Counts.{Counts}
 use Rattle.file_fields.specs.declared.Reading.the-variants.{Refused}
 use Rattle.file_fields.specs.Parts.{countsOf, letterBytes, flagBytes, firstArc, ascendingFront, unlikeFront, flagsFront, wellOp, opsFront, arcSize, arcTests, arcsTests, headerTests, firstFault}
-use Rattle.format.specs.Reading.{bodyTests, fileTests, readingOf}
+use Rattle.format.specs.Reading.{fileTests, readingOf}
 use Rattle.format.specs.Limits.{Ranges}
-use Rattle.format.proofs.Laws.{header-seen}
+use Rattle.format.proofs.Laws.{bodyTests, header-seen}
 use Rattle.automata.specs.Letters.{sameKey}
 use Rattle.automata.specs.Lists.{Each, any}
 use Rattle.file_fields.proofs.Laws.{Hold, flags-length, letters-length}
@@ -47,12 +47,12 @@ flags-most (x ∷ l) = go (leb x 1) (flags-most l)
     go true h = omega arith
     go false h = omega arith
 
-ops-most : (c : Counts) (p : ℕ) (l : List ℕ) → opsFront c p l ≤ p
+ops-most : (c : Counts) (letter p : ℕ) (l : List ℕ) → opsFront c letter p l ≤ p
 unfolding opsFront
-ops-most c zero l = omega arith
-ops-most c (suc p) l = go (wellOp c (getD l 0 0) (getD l 1 0)) (ops-most c p (drop 2 l))
+ops-most c letter zero l = omega arith
+ops-most c letter (suc p) l = go (wellOp c letter (getD l 0 0) (getD l 1 0)) (ops-most c letter p (drop 2 l))
   where
-    go : (b : Bool) → opsFront c p (drop 2 l) ≤ p → cond b (suc (opsFront c p (drop 2 l))) 0 ≤ suc p
+    go : (b : Bool) → opsFront c letter p (drop 2 l) ≤ p → cond b (suc (opsFront c letter p (drop 2 l))) 0 ≤ suc p
     go true h = omega arith
     go false h = omega arith
 
@@ -99,7 +99,7 @@ arcs-inside n c (suc m) at l e =
               omega arith,
               λ _. (
                 omega arith,
-                λ size. let k = leb-true (arcSize l) (length l) size in let o = ops-most c (getD l 3 0) (drop 4 l) in
+                λ size. let k = leb-true (arcSize l) (length l) size in let o = ops-most c (getD l 1 0) (getD l 3 0) (drop 4 l) in
                     (omega arith, λ _. tt),
               ),
             ),

@@ -2,7 +2,7 @@
 -- `read` answers `readingOf` of the file (crates/format/specs/Reading.antt): its contract is that equation.
 use mathlib.Core.Path.{_≡_, refl, sym, ap, ap₂, _∙_, subst}
 use mathlib.Core.Logic.{_↔_, _⊎_, _≢_, inl, inr}
-use mathlib.Core.List.{List, _++_}
+use mathlib.Core.List.{List, List·Memᴰ, _++_}
 use Prim.Native.Nat.{ℕ, _≤_, _<_}
 use native.Mathlib.Omega.{arith}
 use lib.ListN.{length}
@@ -11,12 +11,13 @@ use Rattle.file_fields.specs.declared.Counts.{Counts}
 use Rattle.file_fields.specs.declared.Reading.{Reading}
 use Rattle.file_fields.specs.declared.Reading.the-variants.{Valid, Refused}
 use Rattle.format.specs.Reading.{readingOf, told}
-use Rattle.format.specs.Refusals.{FirstHolds}
+use Rattle.format.specs.Refusals.{FirstHolds, faultOf}
 use Rattle.format.specs.Decoding.{automatonOf}
 use Rattle.format.specs.Encoding.{sizes, bytesOf}
 use Rattle.format.specs.Limits.{Fits, Bytes}
-use Rattle.file_laws.specs.Wanted.{faults}
-use Rattle.file_laws.proofs.FaultLaws.{number-known}
+use Rattle.file_laws.specs.Wanted.{faultNumbers, faults}
+use Rattle.file_laws.proofs.Examples.{each-occurs}
+use Rattle.file_laws.proofs.FaultLaws.{number-known, number-positive}
 use Rattle.file_laws.proofs.Refusals.{first-exactly}
 use Rattle.file_laws.proofs.WantedLaws.{file-first}
 use Rattle.file_laws.proofs.PlaceLaws.{place-most}
@@ -43,9 +44,13 @@ refused-exactly s b = (λ q x h e. never (q .2) (bytes-valid x h) e, λ none. ei
     either (Refused n place) e none = (n, place, e)
     either (Valid c) e none = absurd (none (automatonOf s) (valid-fits s c e) (valid-bytes s b c e))
 
--- The number of a refusal is one of 1 to 9.
-pub number-range : (s : List ℕ) (n : ℕ) {place : ℕ} → readingOf s ≡ Refused n place → (1 ≤ n) × (n ≤ 9)
+-- The number of a refusal is one of a file's fault numbers.
+pub number-range : (s : List ℕ) (n : ℕ) {place : ℕ} → readingOf s ≡ Refused n place → List·Memᴰ n faultNumbers
 number-range s n e = number-known s n e
+
+-- Each of them is that of some file's fault.
+pub number-occurs : (n : ℕ) → List·Memᴰ n faultNumbers → (s : List ℕ) × (faultOf s ≡ n)
+number-occurs n m = each-occurs n m
 
 -- What is told of a file: the number n at a place exactly if these are the number and the place of its first fault (specs/Wanted.antt), or
 -- both are 0 and it has none; and the automaton at fault is 1, the one file handed in, where it has one, else 0.
@@ -60,19 +65,19 @@ told-exactly s n b place =
   where
     whose : (r : Reading) → readingOf s ≡ r → told r .number ≡ n → told r .at-fault ≡ b → ((n ≡ 0) × (b ≡ 0)) ⊎ ((0 < n) × (b ≡ 1))
     whose (Valid c) e p q = inl (sym p, sym q)
-    whose (Refused k at) e p q = inr (omega (arith, number-known s k e .0), sym q)
+    whose (Refused k at) e p q = inr (omega (arith, number-positive s k e), sym q)
 
     named : (r : Reading) → readingOf s ≡ r → told r .number ≡ n → ((n ≡ 0) × (b ≡ 0)) ⊎ ((0 < n) × (b ≡ 1)) → told r .at-fault ≡ b
     named (Valid c) e p (inl h) = sym (h .1)
     named (Valid c) e p (inr h) = absurd (omega (arith, h .0))
-    named (Refused k at) e p (inl h) = absurd (omega (arith, h .0, number-known s k e .0))
+    named (Refused k at) e p (inl h) = absurd (omega (arith, h .0, number-positive s k e))
     named (Refused k at) e p (inr h) = sym (h .1)
 
 -- A file is refused with n at a place exactly if these are the number and the place of its first fault.
 pub number-exactly : (s : List ℕ) (n place : ℕ) → (readingOf s ≡ Refused n place) ↔ ((0 < n) × FirstHolds (faults s) n place)
 number-exactly s n place =
     let first = first-exactly (faults s) (file-first s) n place in (
-      λ e. (number-known s n e .0, first .0 (ap (λ (r : Reading). told r .number) e, ap (λ (r : Reading). told r .place) e)),
+      λ e. (number-positive s n e, first .0 (ap (λ (r : Reading). told r .number) e, ap (λ (r : Reading). told r .place) e)),
       λ f. let t = first .1 (f .1) in refused (readingOf s) refl (t .0) (t .1) (f .0),
     )
   where

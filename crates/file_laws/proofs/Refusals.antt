@@ -20,7 +20,7 @@ use Rattle.format.specs.Refusals.{FirstHolds, faultOf, unlessRefused}
 use Rattle.file_fields.specs.declared.Counts.{Counts}
 use Rattle.file_fields.specs.declared.Reading.{Reading}
 use Rattle.file_fields.specs.declared.Reading.the-variants.{Refused as Fault, Valid}
-use Rattle.file_laws.proofs.FaultLaws.{number-known}
+use Rattle.file_laws.proofs.FaultLaws.{number-positive}
 
 -- ---- tests and conditions
 -- a test decides a condition, and both lead to the same refusal, whose number isn't 0 where it holds
@@ -121,7 +121,7 @@ pub fault-decided : (file : List ℕ) (k : ℕ) → Decides (ltb 0 (faultOf file
 fault-decided file k = decided _ (faultOf file) k (less-iff 0 (faultOf file)) (λ h. h)
 
 pub has-fault : (file : List ℕ) (n : ℕ) {place : ℕ} → readingOf file ≡ Fault n place → 0 < faultOf file
-has-fault file n e = omega (arith, number-known file n e .0, ap numberOf e)
+has-fault file n e = omega (arith, number-positive file n e, ap numberOf e)
 
 pub no-fault : (file : List ℕ) → faultOf file ≡ 0 → (c : Counts) × (readingOf file ≡ Valid c)
 no-fault file z = go (readingOf file) refl

@@ -12,7 +12,7 @@ use Rattle.automata.specs.Letters.{unlike}
 use Rattle.file_fields.specs.declared.Counts.{Counts}
 use Rattle.file_fields.specs.declared.Reading.the-variants.{Valid}
 use Rattle.file_fields.specs.Parts.{countsOf, letterBytes, ascending, flagBytes, firstArc, flags, arcSize, arcsTests, headerTests}
-use Rattle.format.specs.Reading.{bodyTests, fileTests, readingOf}
+use Rattle.format.specs.Reading.{fileTests, readingOf}
 use Rattle.format.specs.Decoding.{arcsOf, isFinal, decoded, automatonOf}
 use Rattle.format.specs.Encoding.{sizes}
 use Rattle.format.specs.Limits.{Ranges, Fits}
@@ -20,7 +20,7 @@ use Rattle.format.specs.Placed.{whole, OkArcs, Lies}
 use Rattle.automata.specs.Lists.{Each}
 use Rattle.automata.proofs.Laws.{each-join, unlike-iff}
 use Rattle.file_fields.proofs.Laws.{Hold, Holds, hold-valid, letters-length, valid-hold}
-use Rattle.format.proofs.Laws.{HeaderSeen, header-seen, seen-header}
+use Rattle.format.proofs.Laws.{HeaderSeen, bodyTests, header-seen, seen-header}
 use Rattle.file_laws.proofs.Fitting.{ArcFits, fits-by}
 use Rattle.file_laws.proofs.ArcLaws.{ArcsSeen, arcs-seen, arcs-count}
 

@@ -44,8 +44,8 @@ where-so : {P Q : Type 0} {a b : Bool} → Tells a P → Tells b Q → Tells (no
 where-so {a = true} f g = record { iff = (λ t _. g .iff .0 t, λ h. g .iff .1 (h (f .iff .0 tt))) }
 where-so {a = false} f g = record { iff = (λ _ p. absurd (f .iff .1 p), λ _. tt) }
 
-operation : (c : Counts) (x y : ℕ) → Tells (wellOp c x y) (IsOperation c x y)
-operation c x y =
+operation : (c : Counts) (letter x y : ℕ) → Tells (wellOp c letter x y) (IsOperation c x y)
+operation c letter x y =
     let t = both (both (both (most (x / 16) 1) (less (x % 16) (c .registers))) (less y (c .symbols))) (where-so (equal (x % 16) 0) (both (equal (x / 16) 0) (equal y 0))) in
     record { iff = (λ w. let p = t .iff .0 w in record { kind = p .0 .0 .0; register = p .0 .0 .1; symbol = p .0 .1; zero-kept = p .1 }, λ o. t .iff .1 (((o .kind, o .register), o .symbol), o .zero-kept)) }
 
@@ -101,12 +101,12 @@ module _ (c : Counts) (ws : List (Type 0 × ℕ × ℕ)) (ts : List (Bool × ℕ
       let k = flagsFront l in
       many (flags l) at (at + 1 + k) (λ b. at + cond b (suc k) 0) (most x 1) (omega arith) (omega arith) (flags-found (at + 1) l)
 
-  operations-found : (p at : ℕ) (l : List ℕ) → Finds (eachOperation c p at l ++ ws) ((wellOps c p l, 8, at + 2 * opsFront c p l) ∷ ts) c
+  operations-found : (letter p at : ℕ) (l : List ℕ) → Finds (eachOperation c p at l ++ ws) ((wellOps c letter p l, 8, at + 2 * opsFront c letter p l) ∷ ts) c
   unfolding eachOperation wellOps opsFront firstFault
-  operations-found zero at l = record { found = rest .found }
-  operations-found (suc p) at l =
-      let k = opsFront c p (drop 2 l) in
-      many (wellOps c p (drop 2 l)) at (at + 2 + 2 * k) (λ b. at + 2 * cond b (suc k) 0) (operation c (getD l 0 0) (getD l 1 0)) (omega arith) (omega arith) (operations-found p (at + 2) (drop 2 l))
+  operations-found letter zero at l = record { found = rest .found }
+  operations-found letter (suc p) at l =
+      let k = opsFront c letter p (drop 2 l) in
+      many (wellOps c letter p (drop 2 l)) at (at + 2 + 2 * k) (λ b. at + 2 * cond b (suc k) 0) (operation c letter (getD l 0 0) (getD l 1 0)) (omega arith) (omega arith) (operations-found letter p (at + 2) (drop 2 l))
 
 arcs-found : (c : Counts) (m at : ℕ) (l : List ℕ) → Finds (eachArc c m at l) (arcsTests m c at l) c
 unfolding eachArc arcsTests firstFault
@@ -118,7 +118,7 @@ arcs-found c (suc m) at l =
     step (less (getD l 2 0) (c .states)) λ _.
     step (within 1 8 (getD l 3 0)) λ _.
     step (most (arcSize l) (length l)) λ _.
-    operations-found c (eachArc c m (at + arcSize l) (drop (arcSize l) l)) (arcsTests m c (at + arcSize l) (drop (arcSize l) l)) (arcs-found c m (at + arcSize l) (drop (arcSize l) l)) (getD l 3 0) (at + 4) (drop 4 l)
+    operations-found c (eachArc c m (at + arcSize l) (drop (arcSize l) l)) (arcsTests m c (at + arcSize l) (drop (arcSize l) l)) (arcs-found c m (at + arcSize l) (drop (arcSize l) l)) (getD l 1 0) (getD l 3 0) (at + 4) (drop 4 l)
 
 -- ---- the whole file
 file-found : (s : List ℕ) → Finds (wanted s) (fileTests s) (countsOf s)

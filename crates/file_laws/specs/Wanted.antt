@@ -1,7 +1,7 @@
 -- Wanted: what is wanted of a file, in the order of reading, each with the number of the fault and its place where it is not so (document
--- 01, 'The book file' and 1 to 9; document 02, change 4). These are statements about bytes, apart from the tests that reading's contract
--- computes (format's specs/Reading.antt). Only where a part stands is told as there (file_fields' specs/Parts.antt), since decoding goes by
--- it too, and which bytes stand for one letter (`key`, which automata's theorem one-letter holds in place).
+-- 01, 'The book file' and its refusals; document 02, changes 4 and 5). These are statements about bytes, apart from the tests that
+-- reading's contract computes (format's specs/Reading.antt). Only where a part stands is told as there (file_fields' specs/Parts.antt),
+-- since decoding goes by it too, and which bytes stand for one letter (`key`, which automata's theorem one-letter holds in place).
 use mathlib.Core.Path.{_≡_}
 use mathlib.Core.Logic.{_⊎_}
 use mathlib.Core.List.{List, List·Memᴰ, [], _++_, _∷_, map}
@@ -75,9 +75,9 @@ abbrev pub arcWants : (c : Counts) (at : ℕ) → List ℕ → List (Type 0 × �
 arcWants c at l =
     (4 ≤ length l, 1, at)
     ∷ (getD l 0 0 < c .states, 7, at)
-    ∷ ((getD l 1 0 ≡ 0xFF) ⊎ (getD l 1 0 < c .letters), 7, at + 1)
-    ∷ (getD l 2 0 < c .states, 7, at + 2)
-    ∷ (Within 1 8 (getD l 3 0), 7, at + 3)
+    ∷ ((getD l 1 0 ≡ 0xFF) ⊎ (getD l 1 0 < c .letters), 32, at + 1)
+    ∷ (getD l 2 0 < c .states, 33, at + 2)
+    ∷ (Within 1 8 (getD l 3 0), 34, at + 3)
     ∷ (4 + 2 * getD l 3 0 ≤ length l, 1, at + 4)
     ∷ eachOperation c (getD l 3 0) (at + 4) (drop 4 l)
 
@@ -94,3 +94,7 @@ wanted s = let c = countsOf s in headerWants s ++ (letterWants c s ++ (caseWants
 -- its faults: each thing wanted that is not so
 abbrev pub faults : List ℕ → List (Type 0 × ℕ × ℕ)
 faults s = map (λ (w : Type 0 × ℕ × ℕ). (¬ w .0, w .1, w .2)) (wanted s)
+
+-- their numbers: document 01's 1 to 9, document 02's 32 to 34 (change 5)
+abbrev pub faultNumbers : List ℕ
+faultNumbers = 1 ∷ 2 ∷ 3 ∷ 4 ∷ 5 ∷ 6 ∷ 7 ∷ 8 ∷ 9 ∷ 32 ∷ 33 ∷ 34 ∷ []

@@ -1,24 +1,24 @@
--- ValidHeader: what reading has seen of a header when it finds no fault there, and what it then goes on to.
-use mathlib.Core.Path.{_≡_, ap, _∙_, subst}
-use mathlib.Core.Bool.{true, _&&_}
-use mathlib.Core.List.{List}
+-- ValidHeader: what reading has seen of a header when it finds no fault there, and of a file's front.
+use mathlib.Core.Path.{_≡_, subst}
+use mathlib.Core.Bool.{Bool, true, _&&_}
+use mathlib.Core.List.{List, _++_}
 use Prim.Native.Nat.{ℕ, _≤_}
 use borrow.Author.Tests.{leb-true, le-leb, eqb-true, eq-eqb}
 use lib.Dec.{leb}
-use lib.ListN.{length}
+use lib.ListN.{length, drop}
 use Rattle.file_fields.specs.declared.Counts.{Counts}
-use Rattle.file_fields.specs.declared.Reading.the-variants.{Valid, Refused}
-use Rattle.file_fields.specs.Parts.{two, marked, countsOf, countTests, headerTests, firstFault}
-use Rattle.format.specs.Reading.{bodyTests, readingOf}
+use Rattle.file_fields.specs.declared.Reading.the-variants.{Valid}
+use Rattle.file_fields.specs.Parts.{two, marked, countsOf, countTests, headerTests, letterTests, flagTests, firstArc, arcsTests, firstFault}
+use Rattle.format.specs.Reading.{frontTests}
 use Rattle.format.specs.Limits.{Ranges}
-use Rattle.file_fields.proofs.Laws.{Hold, and-both, andThen, fault-append, valid-hold}
+use Rattle.file_fields.proofs.Laws.{Hold, and-both, valid-hold}
 
 -- ---- the counts' ranges
 -- a count between two others
 between : {a b x : ℕ} → (leb a x && leb x b) ≡ true → (a ≤ x) × (x ≤ b)
 between {a} {b} {x} e = let h = and-both (leb a x) (leb x b) e in (leb-true _ _ (h .0), leb-true _ _ (h .1))
 
-pub ranges-of : (c : Counts) → Hold (countTests c) → Ranges c
+ranges-of : (c : Counts) → Hold (countTests c) → Ranges c
 ranges-of c h =
     let states = between (h .1 .0) in
     let registers = between (h .1 .1 .0) in
@@ -37,7 +37,7 @@ ranges-of c h =
 within : {a b x : ℕ} → a ≤ x → x ≤ b → (leb a x && leb x b) ≡ true
 within low high = rw (le-leb _ _ low, le-leb _ _ high)
 
-pub ranges-in : (c : Counts) → Ranges c → Hold (countTests c)
+ranges-in : (c : Counts) → Ranges c → Hold (countTests c)
 ranges-in c r =
     (le-leb _ _ (r .letters), (within (r .some-state) (r .states), (within (r .some-register) (r .registers), (within (r .some-symbol) (r .symbols), (le-leb _ _ (r .arcs), tt)))))
 
@@ -54,19 +54,19 @@ header-seen s h = record { twelve = leb-true _ _ (h .0); mark = h .1 .0; version
 pub seen-header : (s : List ℕ) → HeaderSeen s → Hold (headerTests s)
 seen-header s h = (le-leb _ _ (h .twelve), (h .mark, (eq-eqb _ _ (h .version), ranges-in (countsOf s) (h .ranges))))
 
--- ---- the header, then what follows it
-module _ (s : List ℕ) {c : Counts} (e : firstFault (headerTests s) (countsOf s) ≡ Valid c) where
-  pub header-ranges : Ranges c
-  header-ranges = let h = valid-hold (headerTests s) (countsOf s) e in subst (λ (d : Counts). Ranges d) (h .1) (header-seen s (h .0) .ranges)
+-- what follows it, as one list: the tests of a file are those of its header and these
+abbrev pub bodyTests : Counts → List ℕ → List (Bool × ℕ × ℕ)
+bodyTests c s = letterTests c s ++ (flagTests c s ++ arcsTests (c .arcs) c (firstArc c) (drop (firstArc c) s))
 
-  pub after-header : readingOf s ≡ firstFault (bodyTests c s) c
-  unfolding readingOf
-  after-header =
-      fault-append (headerTests s) (bodyTests (countsOf s) s) (countsOf s)
-      ∙ ap (λ r. andThen r (firstFault (bodyTests (countsOf s) s) (countsOf s))) e
-      ∙ ap (λ (d : Counts). firstFault (bodyTests d s) d) (valid-hold (headerTests s) (countsOf s) e .1)
+-- the counts that reading the header answers are in their ranges ..
+pub header-ranges : (s : List ℕ) {c : Counts} → firstFault (headerTests s) (countsOf s) ≡ Valid c → Ranges c
+header-ranges s e = let h = valid-hold (headerTests s) (countsOf s) e in subst (λ (d : Counts). Ranges d) (h .1) (header-seen s (h .0) .ranges)
 
-pub stops-at-header : (s : List ℕ) {n p : ℕ} → firstFault (headerTests s) (countsOf s) ≡ Refused n p → readingOf s ≡ Refused n p
-unfolding readingOf
-stops-at-header s e =
-    fault-append (headerTests s) (bodyTests (countsOf s) s) (countsOf s) ∙ ap (λ r. andThen r (firstFault (bodyTests (countsOf s) s) (countsOf s))) e
+-- .. and so are those that reading the front answers, and the file reaches to its first arc
+pub front-there : (s : List ℕ) {c : Counts} → firstFault (frontTests s) (countsOf s) ≡ Valid c → Ranges c × (firstArc c ≤ length s)
+front-there s e =
+    let h = valid-hold (frontTests s) (countsOf s) e in
+    let counts = h .0 .1 .1 .1 in
+    let letters = counts .1 .1 .1 .1 .1 in
+    let ranges = ranges-of (countsOf s) (counts .0, (counts .1 .0, (counts .1 .1 .0, (counts .1 .1 .1 .0, (counts .1 .1 .1 .1 .0, tt))))) in
+    subst (λ (d : Counts). Ranges d × (firstArc d ≤ length s)) (h .1) (ranges, leb-true (firstArc (countsOf s)) (length s) (letters .1 .1 .1 .0))

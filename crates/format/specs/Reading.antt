@@ -1,6 +1,6 @@
 -- Reading: what reading a file answers, its counts or the number and the place of its first fault.
--- Renders document 01, 'The book file' and 'Refused because of what was handed in', 1 to 9, with document 02, change 4: the tests of a
--- file in the order of reading: left to right, each part there whole before any of it is looked at.
+-- Renders document 01, 'The book file' and 'Refused because of what was handed in' where it speaks of one file, with document 02, changes
+-- 4 and 5: the tests of a file in the order of reading, which is left to right, each part there whole before any of it is looked at.
 use mathlib.Core.Bool.{Bool}
 use mathlib.Core.List.{List, _++_}
 use Prim.Native.Nat.{ℕ}
@@ -11,13 +11,13 @@ use Rattle.file_fields.specs.declared.Reading.{Reading}
 use Rattle.file_fields.specs.declared.Reading.the-variants.{Valid, Refused}
 use Rattle.file_fields.specs.Parts.{headerTests, countsOf, letterTests, flagTests, arcsTests, firstArc, ascending, ascendingFront, unlikeFront, flags, flagsFront, firstFault}
 
--- what follows the header
-abbrev pub bodyTests : Counts → List ℕ → List (Bool × ℕ × ℕ)
-bodyTests c s = letterTests c s ++ (flagTests c s ++ arcsTests (c .arcs) c (firstArc c) (drop (firstArc c) s))
+-- the header, the letters and the final flags
+abbrev pub frontTests : List ℕ → List (Bool × ℕ × ℕ)
+frontTests s = headerTests s ++ (letterTests (countsOf s) s ++ flagTests (countsOf s) s)
 
--- in the order of reading
+-- and then the arcs
 abbrev pub fileTests : List ℕ → List (Bool × ℕ × ℕ)
-fileTests s = headerTests s ++ bodyTests (countsOf s) s
+fileTests s = let c = countsOf s in frontTests s ++ arcsTests (c .arcs) c (firstArc c) (drop (firstArc c) s)
 
 -- the counts of a file all of whose tests hold, else the number and the place of the first that fails
 unfoldable pub readingOf : List ℕ → Reading

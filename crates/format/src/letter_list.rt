@@ -6,11 +6,15 @@ ghost use lib.Dec.{eqb};
 ghost use lib.ListN.{drop, getD, length};
 ghost use Rattle.automata.specs.Letters.{sameKey};
 ghost use Rattle.automata.specs.Lists.{any};
-ghost use Rattle.file_fields.specs.Parts.{ascending, ascendingFront, unlikeFront};
+ghost use Rattle.file_fields.specs.Parts.{ascending, ascendingFront, unlikeFront, letterTests, firstFault};
+use file_fields::Counts;
+use file_fields::Reading;
+use file_fields::fields::flags_at;
 use file_fields::letters::key_of;
 
-// Whether the bytes ascend strictly. Cost: one pass, up to the first that is not above the one before it.
-pub fn is_ascending(s: &[u8]) -> bool
+// Whether the bytes ascend strictly. Counting them costs two instructions more for each, so they are counted only where they do not.
+// Cost: one pass, up to the first that is not above the one before it.
+fn is_ascending(s: &[u8]) -> bool
     ensures { λ r. ⌜ r ≡ ascending (now (s .entry)) ⌝ }
 {
     let mut i: usize = 1;
@@ -24,7 +28,7 @@ pub fn is_ascending(s: &[u8]) -> bool
 }
 
 // How many bytes at the front ascend strictly. Called only where not all do. Cost: one pass over them.
-pub fn ascending_front(s: &[u8]) -> usize
+fn ascending_front(s: &[u8]) -> usize
     ensures { λ r. ⌜ (r ≡ ascendingFront (now (s .entry))) × (r ≤ length (now (s .entry))) ⌝ }
 {
     let mut i: usize = 1;
@@ -77,7 +81,7 @@ fn may_have_both_cases(s: &[u8]) -> bool
 
 // How many letters at the front have no byte of their letter behind them. Cost: constant where all are above the capitals or all below the
 // small letters; else one pass over them, and for each capital one more over the letters behind it.
-pub fn unlike_front(s: &[u8]) -> usize
+fn unlike_front(s: &[u8]) -> usize
     requires { ⌜ ascending (now s) ≡ true ⌝ }
     ensures { λ r. ⌜ r ≡ unlikeFront (now (s .entry)) ⌝ }
 {
@@ -92,4 +96,24 @@ pub fn unlike_front(s: &[u8]) -> usize
         i += 1;
     }
     i
+}
+
+// The counts, or the first fault of the letters.
+// Cost: one pass over them, a second one where they do not ascend, and that of `unlike_front`.
+pub fn read_letters(c: Counts, file: &[u8]) -> Reading
+    requires { ⌜ c .letters ≤ 64 ⌝ }
+    ensures { λ r. ⌜ r ≡ firstFault (letterTests c (now (file .entry))) c ⌝ }
+{
+    let flags = flags_at(c);
+    if file.len() < flags {
+        return Reading::Refused(1, 12);
+    }
+    if !is_ascending(&file[12..flags]) {
+        return Reading::Refused(5, 12 + ascending_front(&file[12..flags]));
+    }
+    let unlike = unlike_front(&file[12..flags]);
+    if unlike < c.letters {
+        return Reading::Refused(5, 12 + unlike);
+    }
+    Reading::Valid(c)
 }

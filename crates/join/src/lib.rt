@@ -15,8 +15,8 @@ use file_writing::Written;
 use format::Reading;
 
 // Writes an automaton that accepts the words of either: a new state 0 with an empty move into each.
-// Refuses, in this order: 1 to 9, the first file's fault; 1 to 9, the second's; 10, the letter lists do not agree; 11, the joined
-// automaton beyond a limit on states or arcs; 25, the output shorter than the result.
+// Refuses, in this order: the first file's fault, as `format::read` tells it; the second's; 10, the letter lists do not agree; 11, the
+// joined automaton beyond a limit on states or arcs; 25, the output shorter than the result.
 // Cost: what reading each file takes, and one pass to write it.
 pub fn union(first: &[u8], second: &[u8], out: &mut [u8]) -> Written
     ensures answer { λ r. ⌜ r ≡ joinedOf union (now (first .entry)) (now (second .entry)) (length (now (out .entry))) ⌝ }
@@ -31,8 +31,8 @@ pub fn union(first: &[u8], second: &[u8], out: &mut [u8]) -> Written
 
 // Writes an automaton that accepts the words of the first, each followed by a word of the second: from each final state of the
 // first an empty move to the initial state of the second, which has registers of its own.
-// Refuses, in this order: 1 to 9, the first file's fault; 1 to 9, the second's; 10, the letter lists do not agree; 11, the joined
-// automaton beyond a limit on states, registers or arcs; 25, the output shorter than the result.
+// Refuses, in this order: the first file's fault, as `format::read` tells it; the second's; 10, the letter lists do not agree; 11, the
+// joined automaton beyond a limit on states, registers or arcs; 25, the output shorter than the result.
 // Cost: what reading each file takes, and one pass to write it.
 pub fn concatenate(first: &[u8], second: &[u8], out: &mut [u8]) -> Written
     ensures answer { λ r. ⌜ r ≡ joinedOf concatenation (now (first .entry)) (now (second .entry)) (length (now (out .entry))) ⌝ }
@@ -46,8 +46,8 @@ pub fn concatenate(first: &[u8], second: &[u8], out: &mut [u8]) -> Written
 }
 
 // Writes an automaton that accepts the words of both: its states are the pairs of theirs, and it has the registers of both.
-// Refuses, in this order: 1 to 9, the first file's fault; 1 to 9, the second's; 10, the letter lists do not agree; 11, the joined
-// automaton beyond a limit on states, registers, arcs or operations of an arc; 25, the output shorter than the result.
+// Refuses, in this order: the first file's fault, as `format::read` tells it; the second's; 10, the letter lists do not agree; 11, the
+// joined automaton beyond a limit on states, registers, arcs or operations of an arc; 25, the output shorter than the result.
 // Cost: what reading each file takes, one pass over the pairs of arcs to count (none where states or registers are too many), one to write.
 pub fn intersect(first: &[u8], second: &[u8], out: &mut [u8]) -> Written
     ensures answer { λ r. ⌜ r ≡ joinedOf intersection (now (first .entry)) (now (second .entry)) (length (now (out .entry))) ⌝ }
@@ -62,8 +62,8 @@ pub fn intersect(first: &[u8], second: &[u8], out: &mut [u8]) -> Written
 
 // Writes an automaton that accepts the finite sequences of the file's words: a new state 0, initial and final, an empty move
 // to the old initial state, and from each final state an empty move back to it, which clears the registers.
-// Refuses, in this order: 1 to 9, the file's fault; 11, the joined automaton beyond a limit on states or arcs; 25, the output
-// shorter than the result. Cost: what reading the file takes, and one pass to write it.
+// Refuses, in this order: the file's fault, as `format::read` tells it; 11, the joined automaton beyond a limit on states or arcs; 25,
+// the output shorter than the result. Cost: what reading the file takes, and one pass to write it.
 pub fn close(file: &[u8], out: &mut [u8]) -> Written
     ensures answer { λ r. ⌜ r ≡ closedOf (now (file .entry)) (length (now (out .entry))) ⌝ }
     ensures output { λ r. ⌜ now (out .exit) ≡ outputOf r (bytesOf (closure (automatonOf (now (file .entry))))) (now (out .entry)) ⌝ }

@@ -19,7 +19,7 @@ use Rattle.format.specs.Reading.{readingOf}
 use Rattle.format.specs.Refusals.{faultOf, unlessRefused}
 use Rattle.file_fields.specs.declared.Reading.{Reading}
 use Rattle.file_fields.specs.declared.Reading.the-variants.{Refused as Fault, Valid}
-use Rattle.file_laws.proofs.Laws.{number-range}
+use Rattle.file_laws.proofs.Laws.{number-between, number-range}
 use Rattle.line_text.specs.Digits.{decimalOf, hexDigits, hexOf}
 use Rattle.line_text.specs.Line.{ascii}
 use Rattle.line_text.proofs.Laws.{decimal-more, decimal-one}
@@ -79,11 +79,11 @@ small-answer x y L n none h = h
 small-answer x y L n (some e) h = h
 
 fault-small : (file : List ℕ) → faultOf file < 100
-fault-small file = go (readingOf file) (λ n place e. number-range file n e .1) refl
+fault-small file = go (readingOf file) refl
   where
-    go : (r : Reading) → ((n place : ℕ) → readingOf file ≡ Fault n place → n ≤ 9) → readingOf file ≡ r → numberOf r < 100
-    go (Valid c) known e = omega arith
-    go (Fault n place) known e = omega (arith, known n place e)
+    go : (r : Reading) → readingOf file ≡ r → numberOf r < 100
+    go (Valid c) e = omega arith
+    go (Fault n place) e = number-between (number-range file n e) .1
 
 module _ (first second : List ℕ) (words buffer : ℕ) where
   abbrev x : Automaton

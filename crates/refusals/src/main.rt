@@ -5,7 +5,9 @@ use book_console::words::say_number;
 
 // Does the number mean a refusal? Cost: constant.
 fn is_refusal(number: u8) -> bool {
-    (number >= 1 && number <= 11) || (number >= 21 && number <= 25) || number == 31
+    (number >= 1 && number <= 11)
+        || (number >= 21 && number <= 25)
+        || (number >= 31 && number <= 34)
 }
 
 // The line of a number that means a refusal; of another nothing. Cost: the line.
@@ -21,7 +23,7 @@ fn say_refusal(number: u8) {
 // Every refusal, one a line. Cost: the lines.
 fn main() {
     let mut number: u8 = 0;
-    while number < 32 {
+    while number < 35 {
         say_refusal(number);
         number += 1;
     }

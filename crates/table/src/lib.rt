@@ -23,7 +23,8 @@ pub enum Opened {
 }
 
 // The file is read and its configurations and plain arcs are found, in the first block, whose rows are not closed. Refuses, in this
-// order: fewer than 8,192 working words, 24 (the automaton at fault is 0); a fault of the file, 1 to 9; more than 256 configurations, 21.
+// order: fewer than 8,192 working words, 24 (the automaton at fault is 0); a fault of the file, as `format::read` tells it; more than 256
+// configurations, 21.
 // Cost: one step for each byte of the file, and what exploring takes.
 pub fn open_file(file: &[u8], work: &mut [u64]) -> Opened
     ensures same { λ _. ⌜ length (now (work .exit)) ≡ length (now (work .entry)) ⌝ }
@@ -58,9 +59,9 @@ pub enum Membership {
 
 // Does the automaton of the file accept the word, and how many configurations are live after it? A byte stands for its letter in
 // either case, whichever of the two the file lists. A word with a byte that is no letter is rejected, and leaves none live. Refuses,
-// in this order: fewer than 8,192 working words, 24 (the automaton at fault is 0); a fault of the file, 1 to 9; more than 256
-// configurations, 21. The working words are free again afterwards, whatever they held before. All configurations are numbered, the
-// runs of empty moves among them are closed once, and the set of live configurations goes from one letter of the word to the next.
+// in this order: fewer than 8,192 working words, 24 (the automaton at fault is 0); a fault of the file, as `format::read` tells it; more
+// than 256 configurations, 21. The working words are free again afterwards, whatever they held before. All configurations are numbered,
+// the runs of empty moves among them are closed once, and the set of live configurations goes from one letter of the word to the next.
 // Cost: b + k * o + k * k + n * (a + k * o) steps, where b is the number of bytes of the file, o that of its arcs and operations, a that
 // of its letters, k that of its configurations, 256 at most, and n that of the bytes of the word. An arc that passes costs besides a
 // look into the table of configurations: as many steps as configurations have the key of its target, k at most. Where there are at

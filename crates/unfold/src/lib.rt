@@ -20,8 +20,9 @@ mod result;
 // configurations that runs reach, numbered as they are met, and its arcs are the arcs that pass there, repeats kept. Answers its
 // length in bytes. A refusal leaves the output as it was lent; else the file stands at its front, and the bytes behind it are as they
 // were lent. The working words are free again afterwards, whatever they held before.
-// Refuses, in this order: fewer than 8,192 working words, 24 (the automaton at fault is 0); a fault of the file, 1 to 9; more than 256
-// configurations, 21; more than 2,048 plain arcs, 22; the output shorter than the result, 25 (the automaton at fault is 0).
+// Refuses, in this order: fewer than 8,192 working words, 24 (the automaton at fault is 0); a fault of the file, as `format::read` tells
+// it; more than 256 configurations, 21; more than 2,048 plain arcs, 22; the output shorter than the result, 25 (the automaton at fault
+// is 0).
 // Cost: b + k * o steps, where b is the number of bytes of the file, o that of its arcs and operations and k that of its
 // configurations, 256 at most; an arc that passes costs besides a look into the table of configurations. Then one step for each byte
 // written. Nothing is allocated.

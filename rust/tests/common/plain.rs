@@ -127,14 +127,17 @@ pub fn read(file: &[u8]) -> Result<Automaton, Fault> {
             four[2] as usize,
             four[3] as usize,
         );
-        let in_range = [
-            from < s,
-            letter == 0xFF || (letter as usize) < a,
-            to < s,
-            (1..=8).contains(&p),
-        ];
-        if let Some(i) = in_range.iter().position(|within| !within) {
-            return fault(7, begin + i);
+        if from >= s {
+            return fault(7, begin);
+        }
+        if letter != 0xFF && letter as usize >= a {
+            return fault(32, begin + 1);
+        }
+        if to >= s {
+            return fault(33, begin + 2);
+        }
+        if !(1..=8).contains(&p) {
+            return fault(34, begin + 3);
         }
         let mut operations = Vec::new();
         let (begin, bytes) = want(2 * p)?;

@@ -1,6 +1,6 @@
 //! Seeded random files, words and couples: small and large, valid and damaged, at the limits and one beyond.
 
-use super::plain::{write, Arc, Automaton, Operation};
+use super::plain::{read, write, Arc, Automaton, Operation};
 
 /// A generator of random numbers (xorshift64*): the same seed gives the same numbers everywhere.
 pub struct Random(u64);
@@ -225,9 +225,30 @@ pub fn changed(r: &mut Random, x: &Automaton) -> Automaton {
     y
 }
 
-/// A file that is often damaged: a byte changed, cut short, or longer.
+/// Spoils fields of one arc of a valid file, each by a byte just beyond its range or far from it; now and then the file ends behind
+/// them, or the arc's first operation is none. (With 256 states every byte is a state.)
+fn spoil_arc(r: &mut Random, file: &mut Vec<u8>, x: &Automaton) {
+    let (before, _) = x.arcs.split_at(r.below(x.arcs.len()));
+    let size = |a: &Arc| 4 + 2 * a.operations.len();
+    let at = 12 + x.letters.len() + x.finals.len() + before.iter().map(size).sum::<usize>();
+    let states = x.finals.len() as u8;
+    let letters = x.letters.len() as u8;
+    let wrong = [[states, 255], [letters, 254], [states, 255], [0, 9]];
+    for (i, bytes) in wrong.iter().enumerate() {
+        if r.one_in(3) {
+            file[at + i] = r.of(bytes);
+        }
+    }
+    match r.below(6) {
+        0 => file.truncate(at + 4 + r.below(2)),
+        1 => file[at + 4] = 0x21,
+        _ => {}
+    }
+}
+
+/// A file that is often damaged: a byte changed, fields of an arc spoiled, cut short, or longer.
 pub fn damaged(r: &mut Random, mut file: Vec<u8>) -> Vec<u8> {
-    match r.below(3) {
+    match r.below(4) {
         0 if !file.is_empty() => {
             let near = file.len().min(if r.one_in(2) { 16 } else { usize::MAX });
             let i = r.below(near);
@@ -241,6 +262,10 @@ pub fn damaged(r: &mut Random, mut file: Vec<u8>) -> Vec<u8> {
             let n = r.below(file.len() + 1);
             file.truncate(n);
         }
+        2 => match read(&file) {
+            Ok(x) if !x.arcs.is_empty() => spoil_arc(r, &mut file, &x),
+            _ => {}
+        },
         _ => file.push(r.below(256) as u8),
     }
     file

@@ -4,8 +4,8 @@ use Rattle.book_console.proofs.Laws.{loaded-most}
 use Rattle.bookjoin.proofs.close_one.Statement.{statement}
 use Rattle.bookjoin.proofs.close_one.Tie as tie
 
-part-close-end : tie.Need-part-close-end
-part-close-end c = loaded-most _ _ (c .before .before .before .before .before .load .ensures) (c .before .before .a .given .1)
+part-write-closure-end : tie.Need-part-write-closure-end
+part-write-closure-end c = loaded-most _ _ (c .before .before .before .before .before .load .ensures) (c .before .before .a .given .1)
 
 pub close-one-spec : {M : Type 1} → statement M
 close-one-spec =
@@ -18,8 +18,7 @@ close-one-spec =
     (λ c. search needs)
     (λ c. search needs)
     (λ c. search needs)
-    part-close-end
-    (λ c κs. search needs)
+    part-write-closure-end
     (λ c κs. search needs)
     (λ c. search needs)
     (λ c. search needs))

@@ -20,12 +20,12 @@ abbrev μ-loop : tie.MeasureT-loop
 μ-loop c file from at₀ i₀ at i = c .arcs - i
 
 -- what the callee said of the part, said of the whole
-arc-read : (c : tie.After-arc-fault Inv-loop μ-loop) → let c1 = c .before .before .before .before in let a = c1 .before .before .args in
-    c .arc-fault .result ≡ firstFault (arcTests (a .c) (c1 .loop .at) (drop (c1 .loop .at) (a .file .now))) (a .c)
+arc-read : (c : tie.After-read-arc Inv-loop μ-loop) → let c1 = c .before .before .before .before in let a = c1 .before .before .args in
+    c .read-arc .result ≡ firstFault (arcTests (a .c) (c1 .loop .at) (drop (c1 .loop .at) (a .file .now))) (a .c)
 arc-read c =
     let c1 = c .before .before .before .before in
     let a = c1 .before .before .args in
-    c .arc-fault .ensures ∙ ap (λ l. firstFault (arcTests (a .c) (c1 .loop .at) l) (a .c)) (tail (a .file .now) (c1 .loop .at))
+    c .read-arc .ensures ∙ ap (λ l. firstFault (arcTests (a .c) (c1 .loop .at) l) (a .c)) (tail (a .file .now) (c1 .loop .at))
 
 -- an arc without a fault is there whole
 there : (c : tie.After-enum-told Inv-loop μ-loop) → let c1 = c .before .before .before .before .before .before in
@@ -37,9 +37,9 @@ there c =
     omega (arith, length-drop (c1 .loop .at) (a .file .now))
 
 -- what this turn decides
-turn : (c : tie.After-arc-fault Inv-loop μ-loop) → let c1 = c .before .before .before .before in let a = c1 .before .before .args in
+turn : (c : tie.After-read-arc Inv-loop μ-loop) → let c1 = c .before .before .before .before in let a = c1 .before .before .args in
     firstFault (arcsTests (a .c .arcs) (a .c) (a .from) (drop (a .from) (a .file .now))) (a .c)
-    ≡ andThen (c .arc-fault .result) (firstFault (arcsTests (a .c .arcs - (c1 .loop .i + 1)) (a .c) (c1 .loop .at + arcSize (drop (c1 .loop .at) (a .file .now))) (drop (c1 .loop .at + arcSize (drop (c1 .loop .at) (a .file .now))) (a .file .now))) (a .c))
+    ≡ andThen (c .read-arc .result) (firstFault (arcsTests (a .c .arcs - (c1 .loop .i + 1)) (a .c) (c1 .loop .at + arcSize (drop (c1 .loop .at) (a .file .now))) (drop (c1 .loop .at + arcSize (drop (c1 .loop .at) (a .file .now))) (a .file .now))) (a .c))
 turn c =
     let c1 = c .before .before .before .before in
     let a = c1 .before .before .args in

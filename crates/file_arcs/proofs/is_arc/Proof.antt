@@ -11,10 +11,10 @@ use Rattle.file_arcs.proofs.is_arc.Tie as tie
 
 -- what the callee said of the part, said of the whole
 operated : (c : tie.After-are-operations) → let c2 = c .before .before .before .before .before in let a = c2 .before .before .before .before .args in
-    c .are-operations .result ≡ wellOps (a .c) (getD (a .s .now) 3 0) (drop 4 (a .s .now))
+    c .are-operations .result ≡ wellOps (a .c) (getD (a .s .now) 1 0) (getD (a .s .now) 3 0) (drop 4 (a .s .now))
 operated c =
-    let c2 = c .before .before .before .before .before in
-    c .are-operations .ensures ∙ rw (tail (c2 .before .before .before .before .args .s .now) 4, c .before .byte .ensures .0)
+    let s = c .before .before .before .before .before .before .before .before .before .args .s .now in
+    c .are-operations .ensures (getD s 1 0) ∙ rw (tail s 4, c .before .byte .ensures .0)
 
 returns : tie.Need-returns
 returns c = rw (lt-leb 4 (length (c .before .before .args .s .now)) (omega arith))

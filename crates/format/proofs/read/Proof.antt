@@ -1,30 +1,46 @@
--- The file: a header that is refused is the answer, else what follows it is.
+-- The file: a front that is refused is the answer, else what is said of the arcs is.
 use mathlib.Core.Path.{_≡_, sym, _∙_}
-use Rattle.file_fields.specs.Parts.{countsOf, headerTests, firstFault}
-use Rattle.format.proofs.ValidHeader.{header-ranges, after-header, stops-at-header}
+use native.Mathlib.Omega.{arith}
+use lib.ListN.{drop}
+use Rattle.file_fields.specs.declared.Counts.{Counts}
+use Rattle.file_fields.specs.Parts.{arcsTests, countsOf, firstArc, firstFault}
+use Rattle.file_fields.proofs.Laws.{goes-on-with, stops}
+use Rattle.format.specs.Reading.{frontTests, readingOf}
+use Rattle.format.proofs.ValidHeader.{front-there}
 use borrow.Author.Needs.{needs}
 use Rattle.format.proofs.read.Statement.{statement}
 use Rattle.format.proofs.read.Tie as tie
 
--- the header's answer, of the file
-header : (c : tie.After-read-header) → c .read-header .result ≡ firstFault (headerTests (c .before .before .args .file .now)) (countsOf (c .before .before .args .file .now))
-header c = c .read-header .ensures
+-- the front's answer, of the file
+front : (c : tie.After-read-front) → let s = c .before .before .args .file .now in c .read-front .result ≡ firstFault (frontTests s) (countsOf s)
+front c = c .read-front .ensures
 
 returns : tie.Need-returns
+unfolding readingOf
 returns c =
+    let s = c .before .before .before .before .args .file .now in
+    let d = countsOf s in
     let told = c .enum-told .given .1 in
-    told ∙ sym (stops-at-header (c .before .before .before .before .args .file .now) (sym (header (c .before .before)) ∙ told))
+    told ∙ sym (stops (frontTests s) d (sym (front (c .before .before)) ∙ told) (arcsTests (d .arcs) d (firstArc d) (drop (firstArc d) s)))
 
-read-body-requires : tie.Need-read-body-requires
-read-body-requires c κs =
+first-arc-requires : tie.Need-first-arc-requires
+first-arc-requires c κs =
     let s = c .before .before .before .before .before .args .file .now in
-    let r = header-ranges s (sym (header (c .before .before .before)) ∙ c .before .header .given .1) in
+    let r = front-there s (sym (front (c .before .before .before)) ∙ c .before .front .given .1) .0 in
     (r .letters, r .states)
 
-returns-2 : tie.Need-returns-2
-returns-2 c =
+read-arcs-requires : tie.Need-read-arcs-requires
+read-arcs-requires c κs =
     let s = c .before .before .before .before .before .before .args .file .now in
-    c .read-body .ensures ∙ sym (after-header s (sym (header (c .before .before .before .before)) ∙ c .before .before .header .given .1))
+    let h = front-there s (sym (front (c .before .before .before .before)) ∙ c .before .before .front .given .1) .1 in
+    omega (arith, c .first-arc .ensures)
+
+returns-2 : tie.Need-returns-2
+unfolding readingOf
+returns-2 c =
+    let s = c .before .before .before .before .before .before .before .args .file .now in
+    let on = goes-on-with (frontTests s) (countsOf s) (sym (front (c .before .before .before .before .before)) ∙ c .before .before .before .front .given .1) (λ (d : Counts). arcsTests (d .arcs) d (firstArc d) (drop (firstArc d) s)) in
+    (rw (c .before .first-arc .ensures) at (c .read-arcs .ensures)) ∙ sym on
 
 pub read-spec : {M : Type 1} → statement M
 read-spec =
@@ -34,5 +50,6 @@ read-spec =
     (λ c. search needs)
     (λ c. search needs)
     returns
-    read-body-requires
+    first-arc-requires
+    read-arcs-requires
     returns-2)

@@ -10,8 +10,8 @@ use lib.Dec.{leb}
 use lib.ListN.{length, getD, drop}
 use Rattle.file_fields.specs.Parts.{flagsFront}
 use Rattle.file_fields.proofs.Laws.{flags-at, flags-end}
-use Rattle.format.proofs.body.flags_front.Statement.{statement}
-use Rattle.format.proofs.body.flags_front.Tie as tie
+use Rattle.format.proofs.flag_list.flags_front.Statement.{statement}
+use Rattle.format.proofs.flag_list.flags_front.Tie as tie
 
 abbrev Inv-loop : tie.InvT-loop
 Inv-loop s i₀ i = (i ≤ length s) × (flagsFront s ≡ i + flagsFront (drop i s))

@@ -9,8 +9,8 @@ use Rattle.file_fields.specs.declared.Reading.the-variants.{Valid}
 use Rattle.file_fields.specs.Parts.{fieldTests, operationTests, opsFront, wellOps, firstFault}
 use Rattle.file_fields.proofs.Laws.{each-holds, failed, fault-append, hold-valid, one-fails, ops-all, passed, tail}
 use borrow.Author.Needs.{needs}
-use Rattle.file_arcs.proofs.arc_fault.Statement.{statement}
-use Rattle.file_arcs.proofs.arc_fault.Tie as tie
+use Rattle.file_arcs.proofs.read_arc.Statement.{statement}
+use Rattle.file_arcs.proofs.read_arc.Tie as tie
 
 -- where the fields are well, what is left decides
 fielded : (c : tie.Else2) → let a = c .before .before .before .before .args in
@@ -21,17 +21,17 @@ fielded c =
 
 -- what the callee said of the part, said of the whole
 operated : (c : tie.After-operations-front) → let a = c .before .before .before .before .before .before .before .before .before .args in
-    c .operations-front .result ≡ opsFront (a .c) (getD (a .s .now) 3 0) (drop 4 (a .s .now))
+    c .operations-front .result ≡ opsFront (a .c) (getD (a .s .now) 1 0) (getD (a .s .now) 3 0) (drop 4 (a .s .now))
 operated c =
     let a = c .before .before .before .before .before .before .before .before .before .args in
-    c .operations-front .ensures ∙ rw (tail (a .s .now) 4, c .before .before .byte .ensures .0)
+    c .operations-front .ensures (getD (a .s .now) 1 0) ∙ rw (tail (a .s .now) 4, c .before .before .byte .ensures .0)
 
 -- all are operations just if as many at the front are as there should be
 all-operate : (c : tie.After-operations-front) → let a = c .before .before .before .before .before .before .before .before .before .args in
-    wellOps (a .c) (getD (a .s .now) 3 0) (drop 4 (a .s .now)) ≡ leb (c .before .before .byte .result) (c .operations-front .result)
+    wellOps (a .c) (getD (a .s .now) 1 0) (getD (a .s .now) 3 0) (drop 4 (a .s .now)) ≡ leb (c .before .before .byte .result) (c .operations-front .result)
 all-operate c =
     let a = c .before .before .before .before .before .before .before .before .before .args in
-    ops-all (a .c) (getD (a .s .now) 3 0) (drop 4 (a .s .now)) ∙ rw (operated c, c .before .before .byte .ensures .0)
+    ops-all (a .c) (getD (a .s .now) 1 0) (getD (a .s .now) 3 0) (drop 4 (a .s .now)) ∙ rw (operated c, c .before .before .byte .ensures .0)
 
 returns : tie.Need-returns
 unfolding firstFault
@@ -91,8 +91,8 @@ returns-5 c =
       all-operate o ∙ le-leb _ _ (c .if4 .left),
     )
 
-pub arc-fault-spec : {M : Type 1} → statement M
-arc-fault-spec =
+pub read-arc-spec : {M : Type 1} → statement M
+read-arc-spec =
     tie.close
     (tie.spec
     returns
