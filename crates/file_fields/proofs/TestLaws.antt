@@ -91,6 +91,10 @@ fault-append [] r c = refl
 fault-append ((true, n, p) ∷ l) r c = fault-append l r c
 fault-append ((false, n, p) ∷ l) r c = refl
 
+-- a refusal is its number and its place: what is left to show where one is answered
+pub same-refusal : (n place : ℕ) → _≡_ {A = Reading} (Refused n place) (Refused n place)
+same-refusal n place = refl
+
 module _ (l : List (Bool × ℕ × ℕ)) (c : Counts) where
   -- where all before them hold, they decide ..
   pub goes-on : {d : Counts} → firstFault l c ≡ Valid d → (r : List (Bool × ℕ × ℕ)) → firstFault (l ++ r) c ≡ firstFault r c

@@ -1,14 +1,13 @@
 -- The first field out of its range: at each return the tests before it hold, and the one there fails or all hold.
-use mathlib.Core.Path.{_≡_, refl}
+use mathlib.Core.Path.{_≡_}
 use mathlib.Core.Bool.{true, _&&_, _||_}
-use Prim.Native.Nat.{ℕ, _+_}
+use Prim.Native.Nat.{_+_}
 use native.Mathlib.Omega.{arith}
 use borrow.Author.Tests.{not-false, not-true}
 use lib.Dec.{eqb, leb, ltb}
 use lib.ListN.{getD}
-use Rattle.file_fields.specs.declared.Reading.{Reading}
-use Rattle.file_fields.specs.declared.Reading.the-variants.{Refused}
 use Rattle.file_fields.specs.Parts.{firstFault}
+use Rattle.file_fields.proofs.Laws.{same-refusal}
 use borrow.Author.Needs.{needs}
 use Rattle.file_arcs.proofs.field_fault.Statement.{statement}
 use Rattle.file_arcs.proofs.field_fault.Tie as tie
@@ -33,10 +32,6 @@ to-within c = let r = c .before .before .before in
     rw (← r .before .byte3 .ensures .0) (not-false (ltb (r .before .byte3 .result) (start r .args .c .states)) (c .if3 .left))
 
 -- ---- the returns
--- what is left to show at a return: the number and the place
-same-refusal : (n place : ℕ) → _≡_ {A = Reading} (Refused n place) (Refused n place)
-same-refusal n place = refl
-
 returns : tie.Need-returns
 unfolding firstFault
 returns c =

@@ -34,11 +34,11 @@ returns-2 c letter =
     let r = c .before .before in
     let e = r .before .before in
     let b = e .before in
-    let a = b .before .before .before .args in
-    let x = getD (a .s .now) (a .at) 0 in
-    let y = getD (a .s .now) (a .at + 1) 0 in
-    rw (r .before .operation-kind .ensures, r .operation-register .ensures, b .before .byte .ensures .0, b .byte2 .ensures .0)
-    (ap (λ t. leb (x / 16) 1 && ltb (x % 16) (a .c .registers) && ltb y (a .c .symbols) && t) (elsewhere x y (λ z. omega (arith, e .if1 .left, b .before .byte .ensures .0, b .byte2 .ensures .0))))
+    let n = b .before .before .before .args .c in
+    let x = b .before .byte .result in
+    let y = b .byte2 .result in
+    rw (← b .before .byte .ensures .0, ← b .byte2 .ensures .0, r .before .operation-kind .ensures, r .operation-register .ensures)
+    (ap (λ t. leb (x / 16) 1 && ltb (x % 16) (n .registers) && ltb y (n .symbols) && t) (elsewhere x y (e .if1 .left)))
 
 pub is-operation-spec : {M : Type 1} → statement M
 is-operation-spec =

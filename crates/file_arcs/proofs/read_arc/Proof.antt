@@ -1,11 +1,12 @@
 -- The first fault of an arc: at each return the tests before it hold, and the one there fails or all hold.
-use mathlib.Core.Path.{_≡_, sym, _∙_}
+use mathlib.Core.Path.{_≡_, ap, sym, _∙_}
 use mathlib.Core.Bool.{true}
+use Prim.Native.Nat.{ℕ, _+_, _*_}
 use native.Mathlib.Omega.{arith}
 use borrow.Author.Tests.{le-leb, lt-leb}
 use lib.Dec.{leb}
 use lib.ListN.{getD, drop}
-use Rattle.file_fields.specs.declared.Reading.the-variants.{Valid}
+use Rattle.file_fields.specs.declared.Reading.the-variants.{Refused, Valid}
 use Rattle.file_fields.specs.Parts.{fieldTests, operationTests, opsFront, wellOps, firstFault}
 use Rattle.file_fields.proofs.Laws.{each-holds, failed, fault-append, hold-valid, one-fails, ops-all, passed, tail}
 use borrow.Author.Needs.{needs}
@@ -72,8 +73,8 @@ returns-4 c =
       ← c3 .before .arc-size .ensures .0,
       le-leb _ _ (c3 .if3 .left),
       all-operate o ∙ lt-leb _ _ (c .if4 .taken),
-      operated o,
     )
+    (ap (λ (n : ℕ). Refused 8 (a .at + 4 + 2 * n)) (operated o))
 
 returns-5 : tie.Need-returns-5
 unfolding firstFault

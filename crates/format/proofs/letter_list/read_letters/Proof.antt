@@ -75,7 +75,8 @@ returns-3 : tie.Need-returns-3
 unfolding firstFault
 returns-3 c =
     let u = c .before .before in
-    rw (there (begun (looked u)), risen (looked u), all-once u ∙ lt-leb _ _ (c .if3 .taken)) (ap (λ (n : ℕ). Refused 5 (12 + n)) (once u))
+    let fewer = lt-leb (start (begun (looked u)) .args .c .letters) (u .unlike-front .result) (omega arith) in
+    rw (there (begun (looked u)), risen (looked u), all-once u ∙ fewer) (ap (λ (n : ℕ). Refused 5 (12 + n)) (once u))
 
 returns-4 : tie.Need-returns-4
 unfolding firstFault
