@@ -245,7 +245,7 @@ fn every_fault_of_a_file_is_met() {
             *met.entry(fault.number).or_insert(0) += 1;
         }
     }
-    for number in (1..=9).chain(32..=34) {
+    for number in plain::FAULTS {
         assert!(met.get(&number) > Some(&5), "{number}: {met:?}");
     }
 }

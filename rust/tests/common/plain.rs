@@ -3,6 +3,9 @@
 
 use std::collections::{BTreeSet, HashMap};
 
+/// The numbers of a file's faults (document 01, and document 02's change 5).
+pub const FAULTS: [u8; 12] = [1, 2, 3, 4, 5, 6, 7, 8, 9, 32, 33, 34];
+
 /// A refusal: its number, and the automaton at fault (0 where none is).
 #[derive(Clone, Copy, Debug, PartialEq, Eq)]
 pub struct Refusal {

@@ -7,8 +7,9 @@ use borrow.Author.Needs.{needs}
 use borrow.Author.Tests.{le-leb, lt-leb}
 use lib.Dec.{leb}
 use lib.ListN.{length, drop, length-drop}
+use Rattle.file_fields.specs.declared.Reading.the-variants.{Refused}
 use Rattle.file_fields.specs.Parts.{arcSize, arcTests, arcsTests, firstFault}
-use Rattle.file_fields.proofs.Laws.{andThen, arcs-at, arcs-end, same-refusal, tail}
+use Rattle.file_fields.proofs.Laws.{andThen, arcs-at, arcs-end, itself, tail}
 use Rattle.file_arcs.proofs.ValidArc.{arc-whole}
 use Rattle.file_arcs.proofs.arcs_fault.Statement.{statement}
 use Rattle.file_arcs.proofs.arcs_fault.Tie as tie
@@ -73,7 +74,7 @@ loop-again c = (omega arith, omega (arith, there (c .before)), turn (c .before .
 
 returns-2 : tie.Need-returns-2 Inv-loop μ-loop
 unfolding firstFault
-returns-2 c = sym (end (c .before) ∙ rw (lt-leb (left (c .before)) 0 (omega arith)) (same-refusal 9 (c .before .before .before .loop .at)))
+returns-2 c = sym (end (c .before) ∙ rw (lt-leb (left (c .before)) 0 (omega arith)) (itself (Refused 9 (c .before .before .before .loop .at))))
 
 returns-3 : tie.Need-returns-3 Inv-loop μ-loop
 unfolding firstFault

@@ -6,8 +6,9 @@ use native.Mathlib.Omega.{arith}
 use borrow.Author.Tests.{not-false, not-true}
 use lib.Dec.{eqb, leb, ltb}
 use lib.ListN.{getD}
+use Rattle.file_fields.specs.declared.Reading.the-variants.{Refused}
 use Rattle.file_fields.specs.Parts.{firstFault}
-use Rattle.file_fields.proofs.Laws.{same-refusal}
+use Rattle.file_fields.proofs.Laws.{itself}
 use borrow.Author.Needs.{needs}
 use Rattle.file_arcs.proofs.field_fault.Statement.{statement}
 use Rattle.file_arcs.proofs.field_fault.Tie as tie
@@ -37,7 +38,7 @@ unfolding firstFault
 returns c =
     let r = c .before in
     let from = r .before .before .before .byte .result in
-    rw (← r .before .before .before .byte .ensures .0, not-true (ltb from (start r .args .c .states)) (c .if1 .taken)) (same-refusal 7 (start r .args .at))
+    rw (← r .before .before .before .byte .ensures .0, not-true (ltb from (start r .args .c .states)) (c .if1 .taken)) (itself (Refused 7 (start r .args .at)))
 
 returns-2 : tie.Need-returns-2
 unfolding firstFault
@@ -46,7 +47,7 @@ returns-2 c =
     let r = c1 .before in
     let letter = r .before .before .byte2 .result in
     rw (from-within c1, ← r .before .before .byte2 .ensures .0, not-true (eqb letter 255 || ltb letter (start r .args .c .letters)) (c .if2 .taken))
-    (same-refusal 32 (start r .args .at + 1))
+    (itself (Refused 32 (start r .args .at + 1)))
 
 returns-3 : tie.Need-returns-3
 unfolding firstFault
@@ -55,7 +56,7 @@ returns-3 c =
     let c1 = c2 .before in
     let r = c1 .before in
     rw (from-within c1, letter-within c2, ← r .before .byte3 .ensures .0, not-true (ltb (r .before .byte3 .result) (start r .args .c .states)) (c .if3 .taken))
-    (same-refusal 33 (start r .args .at + 2))
+    (itself (Refused 33 (start r .args .at + 2)))
 
 returns-4 : tie.Need-returns-4
 unfolding firstFault
@@ -66,7 +67,7 @@ returns-4 c =
     let r = c1 .before in
     let p = r .byte4 .result in
     rw (from-within c1, letter-within c2, to-within c3, ← r .byte4 .ensures .0, not-true (leb 1 p && leb p 8) (c .if4 .taken))
-    (same-refusal 34 (start r .args .at + 3))
+    (itself (Refused 34 (start r .args .at + 3)))
 
 returns-5 : tie.Need-returns-5
 unfolding firstFault

@@ -1,24 +1,25 @@
 -- The first count out of its range: at each return the tests before it hold, and the one there fails or all hold.
 use borrow.Author.Tests.{le-leb, lt-leb}
+use Rattle.file_fields.specs.declared.Reading.the-variants.{Refused}
 use Rattle.file_fields.specs.Parts.{firstFault}
-use Rattle.file_fields.proofs.TestLaws.{passed, failed, same-refusal}
+use Rattle.file_fields.proofs.TestLaws.{failed, itself, passed}
 use borrow.Author.Needs.{needs}
 use Rattle.file_fields.proofs.header.count_fault.Statement.{statement}
 use Rattle.file_fields.proofs.header.count_fault.Tie as tie
 
 returns : tie.Need-returns
 unfolding firstFault
-returns c = rw (lt-leb _ _ (c .if1 .taken)) (same-refusal 4 5)
+returns c = rw (lt-leb _ _ (c .if1 .taken)) (itself (Refused 4 5))
 
 returns-2 : tie.Need-returns-2
 unfolding firstFault
-returns-2 c = rw (le-leb _ _ (c .before .before .if1 .left), failed (c .before .within .ensures) (c .if2 .taken)) (same-refusal 4 6)
+returns-2 c = rw (le-leb _ _ (c .before .before .if1 .left), failed (c .before .within .ensures) (c .if2 .taken)) (itself (Refused 4 6))
 
 returns-3 : tie.Need-returns-3
 unfolding firstFault
 returns-3 c =
     let c2 = c .before .before in
-    rw (le-leb _ _ (c2 .before .before .if1 .left), passed (c2 .before .within .ensures) (c2 .if2 .left), failed (c .before .within2 .ensures) (c .if3 .taken)) (same-refusal 4 8)
+    rw (le-leb _ _ (c2 .before .before .if1 .left), passed (c2 .before .within .ensures) (c2 .if2 .left), failed (c .before .within2 .ensures) (c .if3 .taken)) (itself (Refused 4 8))
 
 returns-4 : tie.Need-returns-4
 unfolding firstFault
@@ -31,7 +32,7 @@ returns-4 c =
       passed (c3 .before .within2 .ensures) (c3 .if3 .left),
       failed (c .before .within3 .ensures) (c .if4 .taken),
     )
-    (same-refusal 4 9)
+    (itself (Refused 4 9))
 
 returns-5 : tie.Need-returns-5
 unfolding firstFault
@@ -46,7 +47,7 @@ returns-5 c =
       passed (c4 .before .within3 .ensures) (c4 .if4 .left),
       lt-leb _ _ (c .if5 .taken),
     )
-    (same-refusal 4 10)
+    (itself (Refused 4 10))
 
 returns-6 : tie.Need-returns-6
 unfolding firstFault

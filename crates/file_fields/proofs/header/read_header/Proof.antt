@@ -4,28 +4,28 @@ use mathlib.Core.Bool.{true}
 use native.Mathlib.Omega.{arith}
 use lib.ListN.{length}
 use borrow.Author.Tests.{le-leb, lt-leb, eq-eqb, ne-eqb}
-use Rattle.file_fields.specs.declared.Reading.the-variants.{Valid}
+use Rattle.file_fields.specs.declared.Reading.the-variants.{Refused, Valid}
 use Rattle.file_fields.specs.declared.Counts.{Counts}
 use Rattle.file_fields.specs.Parts.{allHold, countTests, countsOf, firstFault}
-use Rattle.file_fields.proofs.TestLaws.{each-holds, failed, hold-valid, passed, same-refusal}
+use Rattle.file_fields.proofs.TestLaws.{each-holds, failed, hold-valid, itself, passed}
 use borrow.Author.Needs.{needs}
 use Rattle.file_fields.proofs.header.read_header.Statement.{statement}
 use Rattle.file_fields.proofs.header.read_header.Tie as tie
 
 returns : tie.Need-returns
 unfolding firstFault
-returns c = rw (lt-leb 12 (length (c .before .before .args .file .now)) (omega arith)) (same-refusal 1 0)
+returns c = rw (lt-leb 12 (length (c .before .before .args .file .now)) (omega arith)) (itself (Refused 1 0))
 
 returns-2 : tie.Need-returns-2
 unfolding firstFault
-returns-2 c = rw (le-leb 12 (length (c .before .before .before .before .args .file .now)) (omega arith), failed (c .before .has-mark .ensures) (c .if2 .taken)) (same-refusal 2 0)
+returns-2 c = rw (le-leb 12 (length (c .before .before .before .before .args .file .now)) (omega arith), failed (c .before .has-mark .ensures) (c .if2 .taken)) (itself (Refused 2 0))
 
 returns-3 : tie.Need-returns-3
 unfolding firstFault
 returns-3 c =
     let c2 = c .before .before in
     let c1 = c2 .before .before in
-    rw (le-leb 12 (length (c1 .before .before .args .file .now)) (omega arith), passed (c2 .before .has-mark .ensures) (c2 .if2 .left), ← c .before .double .ensures .0, ne-eqb (c .before .double .result) 1 (c .if3 .taken)) (same-refusal 3 3)
+    rw (le-leb 12 (length (c1 .before .before .args .file .now)) (omega arith), passed (c2 .before .has-mark .ensures) (c2 .if2 .left), ← c .before .double .ensures .0, ne-eqb (c .before .double .result) 1 (c .if3 .taken)) (itself (Refused 3 3))
 
 returns-4 : tie.Need-returns-4
 unfolding firstFault
