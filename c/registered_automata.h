@@ -14,8 +14,9 @@
  * RA_LONGEST_FILE bytes, and an output of that size has room for every result.
  *
  * Letters. A letter is listed as one byte; a capital and its small letter (0x41 to 0x5A and 0x61 to 0x7A) stand for one letter: in a word,
- * in the letters of a file, which may list it in one of its cases only, and where two files are to have the same letters. Joined files and
- * shown words have the bytes that the first file lists.
+ * in the letters of a file, which may list it in one of its cases only, and where letters of two files are the same. Two files may have
+ * letters of their own: they are joined and compared over the letters of both, which are the bytes that the first lists and those of the
+ * second that stand for none of its letters, ascending; there may be 64 of them. Joined files list these bytes, and shown words have them.
  *
  * Working words. Calls that take `work` need RA_WORKING_WORDS words (uint64_t) or more. They may hold anything before the call
  * and hold anything afterwards; nothing has to be cleared between calls.
@@ -26,8 +27,8 @@
  * call that was not refused leaves the bytes behind its result as they were lent.
  *
  * Where several refusals would be in place, the call answers the first in this order: RA_TOO_LITTLE_MEMORY_LENT; the first file's
- * fault (the first one that is met from left to right); the second file's fault; RA_LETTER_LISTS_DIFFER, or RA_LENGTH_TOO_LARGE;
- * RA_JOINED_BEYOND_A_LIMIT, or RA_TOO_MANY_CONFIGURATIONS and RA_TOO_MANY_PLAIN_ARCS of the first, then of the second;
+ * fault (the first one that is met from left to right); the second file's fault; RA_JOINED_BEYOND_A_LIMIT, which comparing gives for the
+ * letters alone, or RA_LENGTH_TOO_LARGE; RA_TOO_MANY_CONFIGURATIONS and RA_TOO_MANY_PLAIN_ARCS of the first, then of the second;
  * RA_TOO_MANY_LIVE_SETS; RA_OUTPUT_TOO_SHORT.
  */
 #ifndef REGISTERED_AUTOMATA_H
@@ -82,9 +83,9 @@ enum ra_refusal {
     /* bytes follow the last arc */
     RA_BYTES_AFTER_THE_LAST_ARC = 9,
     /* of two files, and of what they are joined to */
-    /* the two files list different letters, or the same at other places; a capital and its small letter are one letter */
-    RA_LETTER_LISTS_DIFFER = 10,
-    /* the result would be beyond a limit: 256 states, 8 registers, 2048 arcs, 8 operations on an arc */
+    /* the letters of both files are more than 64, or the result would be beyond a limit: 256 states, 8 registers, 2048 arcs,
+     * 8 operations on an arc
+     */
     RA_JOINED_BEYOND_A_LIMIT = 11,
     /* of sizes */
     /* more than 256 configurations can be reached */
@@ -131,7 +132,7 @@ struct ra_written {
 
 /* What ra_compare answers. */
 struct ra_comparison {
-    uint64_t pairs;     /* how many distinct pairs of live sets the words of the shared letters lead to */
+    uint64_t pairs;     /* how many distinct pairs of live sets the words of the letters of both lead to */
     uint64_t length;    /* how many bytes the shown word has; they stand at the front of the buffer for it */
     uint8_t number;     /* 0, or enum ra_refusal */
     uint8_t automaton;  /* the automaton at fault */
@@ -164,19 +165,20 @@ struct ra_written ra_unfold(const uint8_t *file, size_t file_length,
                             uint64_t *work, size_t work_words,
                             uint8_t *out, size_t out_length);
 
-/* Writes an automaton that accepts the words of either. Its letters are the bytes of the first, as in every join.
- * Refused: a fault of either file, 10, 11, 25. */
+/* Writes an automaton that accepts the words of either. Its letters are those of both, as in every join of two files.
+ * Refused: a fault of either file, 11, 25. */
 struct ra_written ra_union(const uint8_t *first, size_t first_length,
                            const uint8_t *second, size_t second_length,
                            uint8_t *out, size_t out_length);
 
 /* Writes an automaton that accepts each word of the first followed by a word of the second.
- * Refused: a fault of either file, 10, 11, 25. */
+ * Refused: a fault of either file, 11, 25. */
 struct ra_written ra_concatenate(const uint8_t *first, size_t first_length,
                                  const uint8_t *second, size_t second_length,
                                  uint8_t *out, size_t out_length);
 
-/* Writes an automaton that accepts the words that both accept. Refused: a fault of either file, 10, 11, 25. */
+/* Writes an automaton that accepts the words that both accept. It lists the letters of both, also those that none of its arcs has.
+ * Refused: a fault of either file, 11, 25. */
 struct ra_written ra_intersect(const uint8_t *first, size_t first_length,
                                const uint8_t *second, size_t second_length,
                                uint8_t *out, size_t out_length);
@@ -186,11 +188,12 @@ struct ra_written ra_intersect(const uint8_t *first, size_t first_length,
 struct ra_written ra_close(const uint8_t *file, size_t file_length,
                            uint8_t *out, size_t out_length);
 
-/* Do the two accept the same words, of every length? Where they don't, the first word that exactly one accepts is written to the
+/* Do the two accept the same words, of every length and over the letters of both? A word with a letter that one of them lacks isn't
+ * accepted by that one, and leaves nothing live there. Where they don't, the first word that exactly one accepts is written to the
  * front of `word`, which needs RA_WORD_BYTES bytes or more; where they do, `word` is left as it was lent. The first is that of the
- * shortest which is first in letter order: where two words first differ, the letter that is listed first decides. It is written in
- * the first file's bytes, whichever of the two accepts it.
- * Refused: a fault of either file, 10, 21 to 24. */
+ * shortest which is first in letter order: where two words first differ, the letter decides that comes first among the letters of
+ * both. It is written in their bytes, whichever of the two accepts it.
+ * Refused: a fault of either file, 11, 21 to 24. */
 struct ra_comparison ra_compare(const uint8_t *first, size_t first_length,
                                 const uint8_t *second, size_t second_length,
                                 uint64_t *work, size_t work_words,

@@ -87,6 +87,28 @@ static const uint8_t K_AND_K[] = {
     0, 0, 3, 4, 0x01, 0, 0x11, 1, 0x02, 0, 0x12, 1,
 };
 
+/* K and S have letters of their own: c stands behind a and b among those of both. */
+static const uint8_t K_OR_S[] = {
+    0x4D, 0x4C, 0x42, 1, 0, 3, 5, 0, 2, 2, 5, 0, 'a', 'b', 'c', 0, 0, 1, 0, 1,
+    0, 0xFF, 1, 1, 0, 0,
+    0, 0xFF, 3, 1, 0, 0,
+    1, 2, 2, 2, 0x01, 0, 0x11, 1,
+    3, 0, 3, 1, 0, 0,
+    3, 1, 4, 1, 0, 0,
+};
+
+static const uint8_t K_THEN_S[] = {
+    0x4D, 0x4C, 0x42, 1, 0, 3, 4, 0, 2, 2, 4, 0, 'a', 'b', 'c', 0, 0, 0, 1,
+    0, 2, 1, 2, 0x01, 0, 0x11, 1,
+    1, 0xFF, 2, 1, 0, 0,
+    2, 0, 2, 1, 0, 0,
+    2, 1, 3, 1, 0, 0,
+};
+
+static const uint8_t K_AND_S[] = {
+    0x4D, 0x4C, 0x42, 1, 0, 3, 4, 0, 2, 2, 0, 0, 'a', 'b', 'c', 0, 0, 0, 1,
+};
+
 static const uint8_t K_CLOSED[] = {
     0x4D, 0x4C, 0x42, 1, 0, 1, 3, 0, 2, 2, 3, 0, 'c', 1, 0, 1,
     0, 0xFF, 1, 1, 0, 0,
@@ -284,7 +306,8 @@ static void test_unfold(void) {
 
 typedef struct ra_written join(const uint8_t *, size_t, const uint8_t *, size_t, uint8_t *, size_t);
 
-static void test_join(const char *name, join *call, const uint8_t *expected, size_t length) {
+/* A join of K with itself and with S: the files that are to be written. */
+static void test_join(const char *name, join *call, const uint8_t *expected, size_t length, const uint8_t *with_s, size_t s_length) {
     printf("%s of K and K\n", name);
     lend();
     expect_file(call(K, sizeof K, K, sizeof K, out, sizeof out), expected, length);
@@ -296,7 +319,7 @@ static void test_join(const char *name, join *call, const uint8_t *expected, siz
     expect_refusal(call(K, sizeof K, K, sizeof K, out, length - 1), RA_OUTPUT_TOO_SHORT, 0);
     printf("%s of K and S\n", name);
     lend();
-    expect_refusal(call(K, sizeof K, S, sizeof S, out, sizeof out), RA_LETTER_LISTS_DIFFER, 0);
+    expect_file(call(K, sizeof K, S, sizeof S, out, sizeof out), with_s, s_length);
     printf("%s of K and no file\n", name);
     lend();
     expect_refusal(call(K, sizeof K, NULL, 0, out, sizeof out), RA_ENDS_INSIDE_A_FIELD, 2);
@@ -364,9 +387,12 @@ static void test_compare(void) {
     printf("ra_compare of T and U\n");
     lend();
     expect_comparison(ra_compare(T, sizeof T, U, sizeof U, work, RA_WORKING_WORDS, out, RA_WORD_BYTES), 2, 8, "ce");
-    printf("ra_compare of T and K\n");
+    printf("ra_compare of T and K: K lacks e and m\n");
     lend();
-    expect_no_comparison(ra_compare(T, sizeof T, K, sizeof K, work, RA_WORKING_WORDS, out, RA_WORD_BYTES), RA_LETTER_LISTS_DIFFER, 0);
+    expect_comparison(ra_compare(T, sizeof T, K, sizeof K, work, RA_WORKING_WORDS, out, RA_WORD_BYTES), 2, 7, "c");
+    printf("ra_compare of K and S: none of their letters is one of the other's\n");
+    lend();
+    expect_comparison(ra_compare(K, sizeof K, S, sizeof S, work, RA_WORKING_WORDS, out, RA_WORD_BYTES), 2, 5, "b");
     printf("ra_compare of T and no file\n");
     lend();
     expect_no_comparison(ra_compare(T, sizeof T, NULL, 0, work, RA_WORKING_WORDS, out, RA_WORD_BYTES), RA_ENDS_INSIDE_A_FIELD, 2);
@@ -401,6 +427,37 @@ static void test_capitals(void) {
     printf("ra_compare of V in capitals and T\n");
     lend();
     expect_comparison(ra_compare(v, sizeof v, T, sizeof T, work, RA_WORKING_WORDS, out, RA_WORD_BYTES), 2, 6, "EE");
+}
+
+/* Two files may have 64 letters together: L has 64, from 0x80 on, and M the same without the last. */
+static void test_many_letters(void) {
+    uint8_t l[12 + 64 + 1] = {0x4D, 0x4C, 0x42, 1, 0, 64, 1, 0, 1, 1, 0, 0};
+    for (int i = 0; i < 64; i++)
+        l[12 + i] = (uint8_t)(0x80 + i);
+    l[12 + 64] = 1;
+    uint8_t m[sizeof l - 1];
+    memcpy(m, l, 12 + 63);
+    m[5] = 63;
+    m[12 + 63] = 1;
+
+    printf("ra_union of K and M: 64 letters\n");
+    lend();
+    struct ra_written r = ra_union(K, sizeof K, m, sizeof m, out, sizeof out);
+    expect("number", r.number, 0);
+    expect("letters", out[5], 64);
+    expect("letter of K's arc", out[12 + 64 + 4 + 6 + 6 + 1], 0);
+    printf("ra_compare of M and K: 64 letters\n");
+    lend();
+    expect_comparison(ra_compare(m, sizeof m, K, sizeof K, work, RA_WORKING_WORDS, out, RA_WORD_BYTES), 1, 3, "");
+    printf("every call on K and L: 65 letters\n");
+    lend();
+    expect_refusal(ra_union(K, sizeof K, l, sizeof l, out, sizeof out), RA_JOINED_BEYOND_A_LIMIT, 0);
+    expect_refusal(ra_concatenate(K, sizeof K, l, sizeof l, out, sizeof out), RA_JOINED_BEYOND_A_LIMIT, 0);
+    expect_refusal(ra_intersect(l, sizeof l, K, sizeof K, out, sizeof out), RA_JOINED_BEYOND_A_LIMIT, 0);
+    expect_no_comparison(ra_compare(K, sizeof K, l, sizeof l, work, RA_WORKING_WORDS, out, RA_WORD_BYTES), RA_JOINED_BEYOND_A_LIMIT, 0);
+    printf("ra_compare of L and K without its last byte: the second file's fault comes first\n");
+    lend();
+    expect_no_comparison(ra_compare(l, sizeof l, K, sizeof K - 1, work, RA_WORKING_WORDS, out, RA_WORD_BYTES), RA_ENDS_INSIDE_A_FIELD, 2);
 }
 
 static void expect_words(const char *name, const uint8_t *file, size_t size, uint64_t length, uint64_t accepted, uint64_t rejected) {
@@ -465,15 +522,16 @@ int main(void) {
     test_read();
     test_accepts();
     test_unfold();
-    test_join("ra_union", ra_union, K_OR_K, sizeof K_OR_K);
+    test_join("ra_union", ra_union, K_OR_K, sizeof K_OR_K, K_OR_S, sizeof K_OR_S);
     test_joined("ra_union", ra_union, 1, 1);
-    test_join("ra_concatenate", ra_concatenate, K_THEN_K, sizeof K_THEN_K);
+    test_join("ra_concatenate", ra_concatenate, K_THEN_K, sizeof K_THEN_K, K_THEN_S, sizeof K_THEN_S);
     test_joined("ra_concatenate", ra_concatenate, 0, 0);
-    test_join("ra_intersect", ra_intersect, K_AND_K, sizeof K_AND_K);
+    test_join("ra_intersect", ra_intersect, K_AND_K, sizeof K_AND_K, K_AND_S, sizeof K_AND_S);
     test_joined("ra_intersect", ra_intersect, 1, 0);
     test_close();
     test_compare();
     test_capitals();
+    test_many_letters();
     test_count_words();
     test_arc_fields();
     printf("%d checks, %d differences\n", checks, differences);

@@ -6,8 +6,9 @@
 //! to it as it was. What is not proved is this thin layer: that it hands over pointers and lengths as they are.
 //!
 //! A letter is listed as one byte; a capital and its small letter, bytes 41 to 5A and 61 to 7A, stand for one letter: in a
-//! word, in the letters of one file, which may list it in one case only, and where two files are to have the same letters. Joined files and
-//! shown words have the first file's bytes.
+//! word, in the letters of one file, which may list it in one case only, and where letters of two files are the same. Two files may have
+//! letters of their own: they are joined and compared over the letters of both, which are the first file's bytes and those of the second
+//! that stand for none of its letters, ascending. Joined files and shown words have these bytes.
 //!
 //! ```
 //! // 0 to 1 on 'c'; 1 is final
@@ -56,15 +57,16 @@ pub struct Membership {
     pub live: u64,
 }
 
-/// Whether two automata accept the same words. `pairs` is the number of distinct pairs of live sets over all words.
+/// Whether two automata accept the same words. `pairs` is the number of distinct pairs of live sets over all words of the letters of
+/// both; a letter that one of the two lacks leaves nothing live there.
 #[derive(Clone, Copy, Debug, PartialEq, Eq)]
 pub enum Comparison {
     Same {
         pairs: u64,
     },
     /// The word that is shown has `length` bytes, at the front of the buffer lent, and is the first that exactly one of the
-    /// two accepts: the one named. It is written in the bytes that the first file lists, whichever accepts it. Words come in
-    /// order by their length, and then by the places of their letters in the letter list.
+    /// two accepts: the one named. It is written in the bytes of the letters of both, whichever accepts it. Words come in
+    /// order by their length, and then by the places of their letters among these.
     Different {
         pairs: u64,
         accepted_by: Automaton,
@@ -149,10 +151,25 @@ pub fn unfold(file: &[u8], work: &mut [u64], out: &mut [u8]) -> Result<usize, Re
     })
 }
 
-/// Writes an automaton that accepts the words of either, and answers the length of its file. Its letters are the first file's
-/// bytes, as in every join.
+/// Writes an automaton that accepts the words of either, and answers the length of its file. Its letters are those of both, as in
+/// every join of two files: the first file's bytes, and those of the second that stand for none of its letters, ascending.
 ///
-/// Refused, in this order: a fault of the first file, then of the second; 10; 11; 25.
+/// ```
+/// // 0 to 1 on 'c'; 1 is final. The other lists 'C', which is the same letter, and 'g', and has 0 to 1 on 'g'
+/// let cow = b"MLB\x01\x00\x01\x02\x00\x01\x01\x01\x00c\x00\x01\x00\x00\x01\x01\x00\x00";
+/// let goat = b"MLB\x01\x00\x02\x02\x00\x01\x01\x01\x00Cg\x00\x01\x00\x01\x01\x01\x00\x00";
+/// let mut out = [0; 100];
+/// let length = registered_automata::union(cow, goat, &mut out).unwrap();
+/// let mut work = registered_automata::working_words();
+/// assert_eq!(&out[12..14], b"cg");
+/// for word in [b"c", b"g", b"G"] {
+///     let answer = registered_automata::accepts(&out[..length], word, &mut work).unwrap();
+///     assert!(answer.accepted);
+/// }
+/// ```
+///
+/// Refused, in this order: a fault of the first file, then of the second; 11 with more than 64 letters of both, or a result beyond
+/// another limit; 25.
 pub fn union(first: &[u8], second: &[u8], out: &mut [u8]) -> Result<usize, Refusal> {
     written(unsafe {
         engine::ra_union(
@@ -168,7 +185,7 @@ pub fn union(first: &[u8], second: &[u8], out: &mut [u8]) -> Result<usize, Refus
 
 /// Writes an automaton that accepts a word of the first followed by one of the second, and answers the length of its file.
 ///
-/// Refused, in this order: a fault of the first file, then of the second; 10; 11; 25.
+/// Refused, in this order: a fault of the first file, then of the second; 11, as in [`union`]; 25.
 pub fn concatenate(first: &[u8], second: &[u8], out: &mut [u8]) -> Result<usize, Refusal> {
     written(unsafe {
         engine::ra_concatenate(
@@ -182,9 +199,10 @@ pub fn concatenate(first: &[u8], second: &[u8], out: &mut [u8]) -> Result<usize,
     })
 }
 
-/// Writes an automaton that accepts the words that both accept, and answers the length of its file.
+/// Writes an automaton that accepts the words that both accept, and answers the length of its file. It lists the letters of both, also
+/// those that none of its arcs has.
 ///
-/// Refused, in this order: a fault of the first file, then of the second; 10; 11; 25.
+/// Refused, in this order: a fault of the first file, then of the second; 11, as in [`union`]; 25.
 pub fn intersect(first: &[u8], second: &[u8], out: &mut [u8]) -> Result<usize, Refusal> {
     written(unsafe {
         engine::ra_intersect(
@@ -205,11 +223,12 @@ pub fn close(file: &[u8], out: &mut [u8]) -> Result<usize, Refusal> {
     written(unsafe { engine::ra_close(file.as_ptr(), file.len(), out.as_mut_ptr(), out.len()) })
 }
 
-/// Do the two accept the same words, of every length? Where they don't, the first word that exactly one accepts is
-/// written to the front of `word`, in the first file's bytes: of the shortest ones, the first in letter order.
+/// Do the two accept the same words, of every length and over the letters of both? A word with a letter that one of them lacks is
+/// rejected by that one. Where they don't, the first word that exactly one accepts is written to the front of `word`: of the shortest
+/// ones, the first in letter order. It has the bytes of the letters of both, and letters are ranked by their places among these.
 ///
 /// Refused, in this order: 24 with fewer than [`WORKING_WORDS`] or a `word` of fewer than [`WORD_BYTES`]; a fault of the first
-/// file, then of the second; 10; 21 and 22 of the first, then of the second; 23.
+/// file, then of the second; 11 with more than 64 letters of both; 21 and 22 of the first, then of the second; 23.
 pub fn compare(
     first: &[u8],
     second: &[u8],

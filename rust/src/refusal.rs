@@ -43,8 +43,7 @@ pub enum Reason {
     ArcOperations = 34,
     Operation = 8,
     BytesAfterTheLastArc = 9,
-    /// A capital and its small letter are one letter.
-    LetterListsDiffer = 10,
+    /// Or, also where two files are compared, they have more than 64 letters together; a capital and its small letter are one letter.
     JoinedBeyondALimit = 11,
     TooManyConfigurations = 21,
     TooManyPlainArcs = 22,
@@ -56,7 +55,7 @@ pub enum Reason {
 
 impl Reason {
     /// All of them, in the order of their numbers.
-    pub const ALL: [Reason; 20] = [
+    pub const ALL: [Reason; 19] = [
         Reason::EndsInsideAField,
         Reason::Mark,
         Reason::Version,
@@ -66,7 +65,6 @@ impl Reason {
         Reason::ArcSource,
         Reason::Operation,
         Reason::BytesAfterTheLastArc,
-        Reason::LetterListsDiffer,
         Reason::JoinedBeyondALimit,
         Reason::TooManyConfigurations,
         Reason::TooManyPlainArcs,
@@ -105,8 +103,7 @@ impl Reason {
             Reason::ArcOperations => "an arc's number of operations, its fourth byte, is not 1 to 8",
             Reason::Operation => "an operation is not one: kind 0 or 1, register and symbol below their counts, register 0 only with the read of symbol 0",
             Reason::BytesAfterTheLastArc => "bytes follow the last arc",
-            Reason::LetterListsDiffer => "the two files list different letters, or the same at other places",
-            Reason::JoinedBeyondALimit => "the result would be beyond a limit: 256 states, 8 registers, 2048 arcs, 8 operations on an arc",
+            Reason::JoinedBeyondALimit => "the letters of both files are more than 64, or the result would be beyond a limit: 256 states, 8 registers, 2048 arcs, 8 operations on an arc",
             Reason::TooManyConfigurations => "more than 256 configurations can be reached",
             Reason::TooManyPlainArcs => "more than 2048 plain arcs: passing arcs, counted at each configuration",
             Reason::TooManyLiveSets => "words lead to more than 512 live sets, or to more than 512 pairs of them where two automata are compared",

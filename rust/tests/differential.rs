@@ -8,7 +8,7 @@ mod common;
 use common::plain;
 use common::random::{self, Random};
 use registered_automata as engine;
-use std::collections::BTreeMap;
+use std::collections::{BTreeMap, BTreeSet};
 
 /// What stands in lent memory before a call: bytes and words that a call must leave, or may not depend on.
 fn noise(r: &mut Random, n: usize) -> Vec<u8> {
@@ -203,34 +203,59 @@ fn try_count_words(seed: u64, r: &mut Random) {
     }
 }
 
-/// The random files have what capitals and small letters can bring: a list that ascends and has a letter in both cases, two lists
-/// that agree in other bytes, and two with the same letters at other places.
+/// The random couples have letter lists of every kind: the same in other bytes, the same letters at other places, some shared, none shared,
+/// one of them empty, and 64 and 65 letters together. And a list may ascend and have a letter in both cases.
 #[test]
-fn capitals_and_small_letters_are_met() {
-    let small = |letters: &[u8]| letters.to_ascii_lowercase();
-    let sorted = |mut letters: Vec<u8>| {
-        letters.sort();
-        letters
-    };
-    let (mut in_both_cases, mut agree, mut elsewhere) = (0, 0, 0);
-    for seed in 1..=1_000 {
+fn letter_lists_of_every_kind_are_met() {
+    let mut met = BTreeMap::new();
+    for seed in 1..=2_000 {
         let (first, second) = random::couple(&mut Random::new(seed));
-        match (plain::read(&first), plain::read(&second)) {
-            (Ok(x), Ok(y)) if x.letters != y.letters => {
-                let (a, b) = (small(&x.letters), small(&y.letters));
-                agree += (a == b) as u32;
-                elsewhere += (a != b && sorted(a) == sorted(b)) as u32;
-            }
+        let kind = match (plain::read(&first), plain::read(&second)) {
+            (Ok(x), Ok(y)) => kind_of(&x.letters, &y.letters),
             (Err(fault), _) if fault.number == 5 => {
                 let letters = &first[12..12 + first[5] as usize];
-                in_both_cases += letters.windows(2).all(|w| w[0] < w[1]) as u32;
+                if letters.windows(2).all(|w| w[0] < w[1]) {
+                    "in both cases"
+                } else {
+                    "not ascending"
+                }
             }
-            _ => {}
-        }
+            _ => "damaged",
+        };
+        *met.entry(kind).or_insert(0) += 1;
     }
-    assert!(in_both_cases > 5, "{in_both_cases}");
-    assert!(agree > 50, "{agree}");
-    assert!(elsewhere > 5, "{elsewhere}");
+    for kind in [
+        "the same",
+        "the same in other bytes",
+        "the same at other places",
+        "some shared",
+        "none shared",
+        "one empty",
+        "64 together",
+        "65 together",
+        "more together",
+        "in both cases",
+    ] {
+        assert!(met.get(kind) > Some(&8), "{kind}: {met:?}");
+    }
+}
+
+/// How two letter lists stand to each other.
+fn kind_of(first: &[u8], second: &[u8]) -> &'static str {
+    let (a, b) = (first.to_ascii_lowercase(), second.to_ascii_lowercase());
+    let set = |letters: &[u8]| BTreeSet::from_iter(letters.iter().copied());
+    let shared = set(&a).intersection(&set(&b)).count();
+    match a.len() + b.len() - shared {
+        _ if first == second => "the same",
+        _ if a == b => "the same in other bytes",
+        all if all == a.len() && all == b.len() => "the same at other places",
+        64 => "64 together",
+        65 => "65 together",
+        66.. => "more together",
+        _ if a.is_empty() || b.is_empty() => "one empty",
+        _ if shared == 0 => "none shared",
+        _ => "some shared",
+    }
 }
 
 /// The random files have every fault that a file can have.

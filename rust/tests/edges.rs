@@ -1,5 +1,6 @@
 //! Every limit of the requirements: a file, a couple or a join just at it, and one just beyond it. And the fields of an arc: every
-//! byte in each, and several wrong at once. And which bytes stand for one letter: every byte beside every other.
+//! byte in each, and several wrong at once. And which bytes stand for one letter: every byte beside every other. And two files with
+//! letters of their own.
 
 mod common;
 
@@ -327,56 +328,144 @@ const JOINS: [(Join, PlainJoin); 3] = [
 #[test]
 fn a_couple_of_every_two_bytes() {
     let files: Vec<Vec<u8>> = (0..=255).map(|byte| letter_file(&[byte])).collect();
-    let mut work = engine::working_words();
     for x in 0..=255u8 {
         for y in 0..=255u8 {
             let (first, second) = (&files[x as usize], &files[y as usize]);
-            let mut word = [0xA5; 512];
-            let answer = engine::compare(first, second, &mut work, &mut word);
-            let expected = if one_letter(x, y) {
-                Ok(engine::Comparison::Same { pairs: 3 })
+            let (low, high) = (x.min(y), x.max(y));
+            let (letters, expected, word) = if one_letter(x, y) {
+                (vec![x], engine::Comparison::Same { pairs: 3 }, vec![])
             } else {
-                Err(refusal(engine::Reason::LetterListsDiffer, None))
+                // The word of the lower letter is the first, and each automaton accepts that of its own.
+                let accepted_by = if x == low {
+                    engine::Automaton::First
+                } else {
+                    engine::Automaton::Second
+                };
+                (vec![low, high], different(4, accepted_by, 1), vec![low])
             };
-            assert_eq!(answer, expected, "letters {x:02X} and {y:02X}");
+            let answer = shown(first, second);
+            assert_eq!(answer, (expected, word), "letters {x:02X} and {y:02X}");
             for (join, _) in JOINS {
-                let mut out = [0; 100];
-                let answer = join(first, second, &mut out).map(|_| out[12]);
-                let expected = expected.map(|_| x);
-                assert_eq!(answer, expected, "letters {x:02X} and {y:02X}");
+                let listed = joined_letters(join, first, second);
+                assert_eq!(listed, letters, "letters {x:02X} and {y:02X}");
             }
         }
     }
 }
 
+/// The letters that a joined file lists.
+fn joined_letters(join: Join, first: &[u8], second: &[u8]) -> Vec<u8> {
+    let mut out = [0; 400];
+    join(first, second, &mut out).unwrap();
+    out[12..12 + out[5] as usize].to_vec()
+}
+
+fn different(pairs: u64, accepted_by: engine::Automaton, length: usize) -> engine::Comparison {
+    engine::Comparison::Different {
+        pairs,
+        accepted_by,
+        length,
+    }
+}
+
+/// What comparing answers, and the word that it shows; the buffer behind that word is as it was lent.
+fn shown(first: &[u8], second: &[u8]) -> (engine::Comparison, Vec<u8>) {
+    let mut word = [0xA5; 512];
+    let answer = engine::compare(first, second, &mut engine::working_words(), &mut word).unwrap();
+    let length = match answer {
+        engine::Comparison::Same { .. } => 0,
+        engine::Comparison::Different { length, .. } => length,
+    };
+    assert_eq!(word[length..], [0xA5; 512][length..]);
+    (answer, word[..length].to_vec())
+}
+
+/// The first file's bytes, and those of the second that stand for none of its letters, ascending.
 #[test]
-fn letters_agree_place_by_place() {
-    let cases: [(&[u8], &[u8], u8); 12] = [
-        (b"", b"", 0),
-        (b"ab", b"AB", 0),
-        (b"ab", b"Ab", 0),
-        (b"Ab", b"AB", 0),
-        (b"@ab{", b"@AB{", 0),
-        (b"AB[", b"A[b", 10),
-        (b"AB[", b"[ab", 10),
-        (b"ab", b"Ba", 10),
-        (b"ab", b"AC", 10),
-        (b"ab", b"A", 10),
-        (b"a", b"AB", 10),
-        (b"", b"A", 10),
+fn the_letters_of_both() {
+    let cases: [(&[u8], &[u8], &[u8]); 18] = [
+        (b"", b"", b""),
+        (b"ab", b"AB", b"ab"),
+        (b"ab", b"Ab", b"ab"),
+        (b"Ab", b"AB", b"Ab"),
+        (b"@ab{", b"@AB{", b"@ab{"),
+        (b"AB[", b"A[b", b"AB["),
+        (b"A[b", b"AB[", b"A[b"),
+        (b"AB[", b"[ab", b"AB["),
+        (b"ab", b"Ba", b"ab"),
+        (b"Ba", b"ab", b"Ba"),
+        (b"ab", b"AC", b"Cab"),
+        (b"AC", b"ab", b"ACb"),
+        (b"ab", b"A", b"ab"),
+        (b"a", b"AB", b"Ba"),
+        (b"", b"A", b"A"),
+        (b"A", b"", b"A"),
+        (b"cm", b"adz", b"acdmz"),
+        (b"\x00\xFE", b"\x01@\xFF", b"\x00\x01@\xFE\xFF"),
     ];
     let mut x = automaton(1, 1, Vec::new());
     x.finals = vec![true];
-    for (a, b, expected) in cases {
+    for (a, b, both) in cases {
         let (first, second) = (over(a, &x), over(b, &x));
-        let mut word = [0; 512];
-        let mut out = [0; 100];
-        let answer = engine::compare(&first, &second, &mut engine::working_words(), &mut word);
-        assert_eq!(number(answer), expected);
+        // Each accepts the empty word alone; any letter leaves nothing live in either.
+        let pairs = if both.is_empty() { 1 } else { 2 };
+        let expected = engine::Comparison::Same { pairs };
+        assert_eq!(compared(&first, &second), Ok(expected));
         for (join, _) in JOINS {
-            assert_eq!(number(join(&first, &second, &mut out)), expected);
+            assert_eq!(joined_letters(join, &first, &second), both);
         }
     }
+}
+
+/// Two files over other letters: one over b and d, which accepts the words of any number of b and then a d; and one over B, a and e, where
+/// an a leads to the final state, an e stays there and a B leads back.
+const COUPLE: [&[u8]; 2] = [
+    b"MLB\x01\x00\x02\x02\x00\x01\x01\x02\x00bd\x00\x01\
+        \x00\x00\x00\x01\x00\x00\
+        \x00\x01\x01\x01\x00\x00",
+    b"MLB\x01\x00\x03\x02\x00\x01\x01\x03\x00Bae\x00\x01\
+        \x00\x01\x01\x01\x00\x00\
+        \x01\x00\x00\x01\x00\x00\
+        \x01\x02\x01\x01\x00\x00",
+];
+
+/// The letters of both are a, b, d and e, in the other order of the files B, a, d and e.
+#[test]
+fn arcs_follow_their_letters() {
+    let [x, y] = COUPLE;
+    let union: &[u8] = b"MLB\x01\x00\x04\x05\x00\x01\x01\x07\x00abde\x00\x00\x01\x00\x01\
+        \x00\xFF\x01\x01\x00\x00\
+        \x00\xFF\x03\x01\x00\x00\
+        \x01\x01\x01\x01\x00\x00\
+        \x01\x02\x02\x01\x00\x00\
+        \x03\x00\x04\x01\x00\x00\
+        \x04\x01\x03\x01\x00\x00\
+        \x04\x03\x04\x01\x00\x00";
+    let concatenation: &[u8] = b"MLB\x01\x00\x04\x04\x00\x01\x01\x06\x00abde\x00\x00\x00\x01\
+        \x00\x01\x00\x01\x00\x00\
+        \x00\x02\x01\x01\x00\x00\
+        \x01\xFF\x02\x01\x00\x00\
+        \x02\x00\x03\x01\x00\x00\
+        \x03\x01\x02\x01\x00\x00\
+        \x03\x03\x03\x01\x00\x00";
+    let intersection: &[u8] = b"MLB\x01\x00\x04\x04\x00\x01\x01\x01\x00abde\x00\x00\x00\x01\
+        \x01\x01\x00\x02\x00\x00\x00\x00";
+    writes_just_into(union, |out| engine::union(x, y, out));
+    writes_just_into(concatenation, |out| engine::concatenate(x, y, out));
+    writes_just_into(intersection, |out| engine::intersect(x, y, out));
+
+    let union: &[u8] = b"MLB\x01\x00\x04\x05\x00\x01\x01\x07\x00Bade\x00\x00\x01\x00\x01\
+        \x00\xFF\x01\x01\x00\x00\
+        \x00\xFF\x03\x01\x00\x00\
+        \x01\x01\x02\x01\x00\x00\
+        \x02\x00\x01\x01\x00\x00\
+        \x02\x03\x02\x01\x00\x00\
+        \x03\x00\x03\x01\x00\x00\
+        \x03\x02\x04\x01\x00\x00";
+    let intersection: &[u8] = b"MLB\x01\x00\x04\x04\x00\x01\x01\x01\x00Bade\x00\x00\x00\x01\
+        \x02\x00\x00\x02\x00\x00\x00\x00";
+    writes_just_into(union, |out| engine::union(y, x, out));
+    writes_just_into(intersection, |out| engine::intersect(y, x, out));
 }
 
 #[test]
@@ -400,18 +489,181 @@ fn the_shown_word_has_the_first_files_bytes() {
             (&x, &y, engine::Automaton::First),
             (&y, &x, engine::Automaton::Second),
         ] {
-            let mut word = [0xA5; 512];
-            let (first, second) = (over(a, first), over(b, second));
-            let answer = engine::compare(&first, &second, &mut engine::working_words(), &mut word);
-            let expected = engine::Comparison::Different {
-                pairs: 6,
-                accepted_by,
-                length: 2,
-            };
-            assert_eq!(answer, Ok(expected));
-            assert_eq!(word[..2], *a);
-            assert_eq!(word[2..], [0xA5; 510]);
+            let answer = shown(&over(a, first), &over(b, second));
+            assert_eq!(answer, (different(6, accepted_by, 2), a.to_vec()));
         }
+    }
+}
+
+/// Letters are ranked by their places among the letters of both, and so a capital may come before a letter that its small one comes behind.
+/// A letter of both has the first file's byte in the shown word, and one that the first lacks the second's.
+#[test]
+fn the_shown_word_over_the_letters_of_both() {
+    use engine::Automaton::{First, Second};
+    let (up, down) = (one_word(0, 1), one_word(1, 0));
+    let cases = [
+        // abd: ad before bd
+        (over(b"ad", &up), over(b"bd", &up), 6, First, b"ad"),
+        // Bad: Bd before ad
+        (over(b"ad", &up), over(b"Bd", &up), 6, Second, b"Bd"),
+        // BDa: BD before aD
+        (over(b"Da", &down), over(b"Bd", &up), 6, Second, b"BD"),
+        // Abd: bA before bd
+        (over(b"bd", &up), over(b"Ab", &down), 5, Second, b"bA"),
+        (over(b"Bd", &up), over(b"ab", &down), 5, Second, b"Ba"),
+        // the same letters, ab in one list and Ba in the other
+        (over(b"ab", &up), over(b"Ba", &up), 6, First, b"ab"),
+        (over(b"Ba", &up), over(b"ab", &up), 6, First, b"Ba"),
+        // none shared
+        (over(b"cd", &up), over(b"ab", &up), 6, Second, b"ab"),
+    ];
+    for (first, second, pairs, accepted_by, word) in cases {
+        let expected = (different(pairs, accepted_by, 2), word.to_vec());
+        assert_eq!(shown(&first, &second), expected);
+    }
+    // One word, though its letters stand at other places.
+    let (first, second) = (over(b"ab", &up), over(b"Ba", &down));
+    let same = Ok(engine::Comparison::Same { pairs: 4 });
+    assert_eq!(compared(&first, &second), same);
+    assert_eq!(compared(&second, &first), same);
+}
+
+/// One final state over these letters, and an arc for each of the first `looped` of them.
+fn looping(letters: &[u8], looped: usize) -> Vec<u8> {
+    let x = plain::read(&one_state(letters.len(), looped, true)).unwrap();
+    over(letters, &x)
+}
+
+/// A letter that one automaton lacks leaves nothing live there.
+#[test]
+fn pairs_over_the_letters_of_both() {
+    let same = |pairs| (engine::Comparison::Same { pairs }, b"".to_vec());
+    let by_second = |pairs| different(pairs, engine::Automaton::Second, 1);
+    let only_second = |pairs| (by_second(pairs), b"b".to_vec());
+    assert_eq!(shown(&looping(b"a", 1), &looping(b"A", 1)), same(1));
+    // b: nothing is live in either
+    assert_eq!(shown(&looping(b"a", 1), &looping(b"ab", 1)), same(2));
+    assert_eq!(shown(&looping(b"ab", 1), &looping(b"a", 1)), same(2));
+    // b: nothing is live in the first, the one state in the second
+    let answer = shown(&looping(b"a", 1), &looping(b"ab", 2));
+    assert_eq!(answer, only_second(2));
+    // no letters: every letter is lacked
+    let answer = shown(&looping(b"", 0), &looping(b"b", 1));
+    assert_eq!(answer, only_second(2));
+    // each lacks the other's letter
+    let answer = shown(&looping(b"c", 1), &looping(b"b", 1));
+    assert_eq!(answer, only_second(4));
+    // 512 pairs over one letter; a second letter, which one of the lists has and no arc, adds that of two empty sets.
+    let over_ab = |file: &[u8]| over(b"ab", &plain::read(file).unwrap());
+    let cycle = tail_and_cycle(0, 31);
+    let all = Ok(engine::Comparison::Same { pairs: 512 });
+    assert_eq!(compared(&tail_and_cycle(16, 16), &cycle), all);
+    let too_many = Err(refusal(engine::Reason::TooManyLiveSets, None));
+    for tail in [15, 16] {
+        let longer = tail_and_cycle(tail, 16);
+        let expected = if tail == 15 { all } else { too_many };
+        assert_eq!(compared(&longer, &over_ab(&cycle)), expected);
+        assert_eq!(compared(&over_ab(&longer), &cycle), expected);
+    }
+}
+
+/// As many bytes from 80 on, which are a letter each, with these before them.
+fn many_letters(before: &[u8], more: u8) -> Vec<u8> {
+    let mut letters = before.to_vec();
+    letters.extend(0x80..0x80 + more);
+    letters
+}
+
+/// An automaton over these letters that accepts the last of them; with none it accepts nothing.
+fn last_letter_file(letters: &[u8]) -> Vec<u8> {
+    let arcs = letters.len().checked_sub(1).map(|last| Arc {
+        letter: Some(last),
+        ..arc(0, 1, &[PASS])
+    });
+    over(letters, &automaton(2, 1, arcs.into_iter().collect()))
+}
+
+#[test]
+fn sixty_four_letters_of_both() {
+    use engine::Automaton::{First, Second};
+    let most = many_letters(b"", 64);
+    let one_less = many_letters(b"", 63);
+    let capitals = many_letters(b"ABCDEFGHIJKLMNOPQRSTUVWXYZ", 10);
+    let small = many_letters(b"abcdefghijklmnopqrstuvwxyz", 38);
+    let same = engine::Comparison::Same { pairs: 3 };
+    let cases: [(&[u8], &[u8], engine::Comparison, &[u8]); 8] = [
+        (&most, &most, same, b""),
+        (&most, b"", different(3, First, 1), b"\xBF"),
+        (b"", &most, different(3, Second, 1), b"\xBF"),
+        (&most, b"\xBF", same, b""),
+        (&one_less, b"a", different(4, Second, 1), b"a"),
+        (b"\xFF", &one_less, different(4, Second, 1), b"\xBE"),
+        (&capitals, &small, different(4, First, 1), b"\x89"),
+        (&small, &capitals, different(4, Second, 1), b"\x89"),
+    ];
+    for (a, b, expected, word) in cases {
+        let (first, second) = (last_letter_file(a), last_letter_file(b));
+        assert_eq!(shown(&first, &second), (expected, word.to_vec()));
+        for (join, plainly) in JOINS {
+            let joined = joins_within(join, plainly, &first, &second);
+            assert_eq!(joined.letters.len(), 64);
+        }
+    }
+}
+
+#[test]
+fn sixty_five_letters_of_both() {
+    let most = many_letters(b"", 64);
+    let capitals = many_letters(b"ABCDEFGHIJKLMNOPQRSTUVWXYZ", 10);
+    let small = many_letters(b"abcdefghijklmnopqrstuvwxyz", 38);
+    let cases: [(&[u8], &[u8]); 7] = [
+        (&most, b"a"),
+        (b"\xFF", &most),
+        (&most, &small),
+        (&many_letters(b"Z", 10), &many_letters(b"bcd", 61)),
+        (&many_letters(b"[", 26), &small),
+        (&many_letters(b"ABC", 40), &many_letters(b"abd", 61)),
+        (&capitals, &many_letters(b"abcdefghijklmnopqrstuvwxy", 39)),
+    ];
+    let beyond = refusal(engine::Reason::JoinedBeyondALimit, None);
+    for (a, b) in cases {
+        let (first, second) = (last_letter_file(a), last_letter_file(b));
+        assert_eq!(compared(&first, &second), Err(beyond));
+        for (join, plainly) in JOINS {
+            joins_beyond(join, plainly, &first, &second);
+            assert_eq!(join(&first, &second, &mut []), Err(beyond));
+        }
+    }
+}
+
+/// The letters of both are counted behind 24 and either file's fault, and before anything that hangs on the arcs.
+#[test]
+fn the_letters_of_both_in_the_order_of_refusals() {
+    use engine::Automaton::{First, Second};
+    let most = last_letter_file(&many_letters(b"", 64));
+    let one_less = last_letter_file(&many_letters(b"", 63));
+    let beyond = refusal(engine::Reason::JoinedBeyondALimit, None);
+    let configurations = engine::Reason::TooManyConfigurations;
+    let arcs = engine::Reason::TooManyPlainArcs;
+    for (file, reason) in [(chain(256, true), configurations), (plain_arcs(true), arcs)] {
+        assert_eq!(compared(&most, &file), Err(beyond));
+        assert_eq!(compared(&file, &most), Err(beyond));
+        let (first, second) = (refusal(reason, Some(First)), refusal(reason, Some(Second)));
+        assert_eq!(compared(&file, &one_less), Err(first));
+        assert_eq!(compared(&one_less, &file), Err(second));
+        // The file without its last byte has a fault.
+        let cut = &file[..file.len() - 1];
+        let ends = engine::Reason::EndsInsideAField;
+        let (first, second) = (refusal(ends, Some(First)), refusal(ends, Some(Second)));
+        assert_eq!(compared(cut, &most), Err(first));
+        assert_eq!(compared(&most, cut), Err(second));
+        for (join, _) in JOINS {
+            assert_eq!(join(cut, &most, &mut []), Err(first));
+            assert_eq!(join(&most, cut, &mut []), Err(second));
+        }
+        let mut few = vec![0; 8191];
+        let answer = engine::compare(&most, &file, &mut few, &mut [0; 512]);
+        assert_eq!(number(answer), 24);
     }
 }
 

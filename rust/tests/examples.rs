@@ -110,3 +110,23 @@ fn three_states_and_two_registers_are_enough() {
         engine::Comparison::Same { .. }
     ));
 }
+
+/// Cows lack the letter g and list the others in another case. What both accept is what cows accept, and what either accepts is what
+/// goats accept.
+#[test]
+fn herds_with_letters_of_their_own() {
+    let (cows, goats) = (file("cows"), file("goats"));
+    for (first, second) in [(&cows, &goats), (&goats, &cows)] {
+        let mut out = vec![0; engine::LONGEST_FILE];
+        let n = engine::intersect(first, second, &mut out).expect("within the limits");
+        assert_eq!(
+            compared(&out[..n], &cows),
+            engine::Comparison::Same { pairs: 4 }
+        );
+        let n = engine::union(first, second, &mut out).expect("within the limits");
+        assert_eq!(
+            compared(&goats, &out[..n]),
+            engine::Comparison::Same { pairs: 9 }
+        );
+    }
+}

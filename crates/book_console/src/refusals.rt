@@ -9,13 +9,9 @@ use format::Reading;
 // What a refusal means that is no fault of a file. Cost: the text.
 fn say_limit(file: i32, number: u8) -> bool {
     match number {
-        10 => say(
-            file,
-            b"the two files list different letters, or the same at other places",
-        ),
         11 => say(
             file,
-            b"the result would be beyond a limit: 256 states, 8 registers, 2048 arcs, 8 operations on an arc",
+            b"the letters of both files are more than 64, or the result would be beyond a limit: 256 states, 8 registers, 2048 arcs, 8 operations on an arc",
         ),
         21 => say(file, b"more than 256 configurations can be reached"),
         22 => say(

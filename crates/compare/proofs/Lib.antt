@@ -1,4 +1,5 @@
 pub mod Verdicts
 pub mod DecidingLaws
 pub mod Refusals
+pub mod OverLaws
 pub mod LoadingLaws

@@ -1,6 +1,6 @@
 -- Refusals: the refusals of comparing in their order, one test after the other.
 use mathlib.Core.Path.{_≡_, _∙_, ap, refl, sym}
-use mathlib.Core.Logic.{_≢_}
+use mathlib.Core.Logic.{_≢_, _⊎_}
 use mathlib.Core.Bool.{Bool, false, true, _||_}
 use mathlib.Core.List.{List, [], _∷_, _++_}
 use Prim.Native.Nat.{ℕ, _≤_, _<_}
@@ -11,18 +11,20 @@ use lib.ListN.{length}
 use Rattle.automata.specs.Automaton.{Automaton}
 use Rattle.automata.specs.Pairs.{verdict}
 use Rattle.automata.specs.Unfolding.{configurations, plainArcs}
+use Rattle.relettering.specs.Relettering.{relettered, withLetters}
+use Rattle.relettering.proofs.Laws.{configurations-same, plain-many}
 use Rattle.table_explore.specs.Explores.{exploredOf}
 use Rattle.table_configurations.specs.declared.Explored.the-variants.{Tables, TooMany}
 use Rattle.format.specs.Decoding.{automatonOf}
 use Rattle.format.specs.Refusals.{unlessRefused}
 use Rattle.file_fields.specs.declared.Counts.{Counts}
-use Rattle.file_pair.specs.Pair.{filesOf, pairRefusals}
-use Rattle.file_pair.specs.declared.Files.the-variants.{Both, Fault}
+use Rattle.file_pair.specs.Pair.{filesOf, lettersOf, pairRefusals}
+use Rattle.file_pair.specs.declared.Files.the-variants.{Alike, Apart, Fault}
 use Rattle.file_pair.proofs.Laws.{files-passed, files-refused}
 use Rattle.table.proofs.Laws.{explored-few, explored-many}
 use Rattle.compare.specs.Answers.{Answers}
 use Rattle.compare.specs.Loading.{limitOf}
-use Rattle.compare_promise.specs.Comparing.{answerOf, bufferOf, comparisonOf, countRefusals, limitRefusals, refusals, shownWord, tableRefusals}
+use Rattle.compare_promise.specs.Comparing.{answerOf, bufferOf, comparisonOf, countRefusals, limitRefusals, refusals, shownWord, tableRefusals, verdictOf}
 use Rattle.compare_promise.specs.declared.Comparison.{Comparison}
 use Rattle.compare_promise.specs.declared.Comparison.the-variants.{Refused}
 
@@ -54,6 +56,11 @@ module _ (z : Automaton) (L M : ℕ) where
   limit-none {count} {plain} e h =
       let f = explored-few z L count plain e in
       rw (le-ltb L (length (configurations z L)) (f .0), le-ltb M (length (plainArcs z L)) (omega (arith, f .2)))
+
+  -- over other letters it is the same
+  pub limit-same : (new all : List ℕ) → limitOf L M z ≡ limitOf L M (withLetters new all z)
+  unfolding limitRefusals
+  limit-same new all = rw (configurations-same z new all L, plain-many z new all L)
 
   module _ {P : ℕ} {x y : Automaton} (left : List (Bool × ℕ × ℕ)) (b : ℕ) {n : ℕ} (is : n ≡ limitOf L M z) where
     -- it refuses where it is not 0, else what is left answers
@@ -93,20 +100,20 @@ module _ {x y : Automaton} {n : ℕ} (one : n ≡ limitOf 256 2048 x) where
 -- ---- the whole call
 module _ (first second : List ℕ) where
   abbrev one : Automaton
-  one = automatonOf first
+  one = relettered (lettersOf first second) (automatonOf first)
 
   abbrev two : Automaton
-  two = automatonOf second
+  two = relettered (lettersOf first second) (automatonOf second)
 
   -- the refusals behind 24
   abbrev pub behindMemory : List (Bool × ℕ × ℕ)
   behindMemory = pairRefusals first second ++ tableRefusals 256 2048 512 one two
 
-  -- the files: a fault of the first, of the second, and 10
+  -- the files: a fault of the first, of the second, and 11
   pub files-fault : (old : List ℕ) {n b : ℕ} → filesOf first second ≡ Fault n b → Answers 256 512 behindMemory one two old old (Refused n b)
   files-fault old e = record { answer = sym (files-refused first second Refused (tableRefusals 256 2048 512 one two) (answerOf (verdict one two 256 512)) e); buffer = refl }
 
-  pub files-both : {old new : List ℕ} {r : Comparison} {c d : Counts} → filesOf first second ≡ Both c d → Answers 256 512 (tableRefusals 256 2048 512 one two) one two old new r → Answers 256 512 behindMemory one two old new r
+  pub files-both : {old new : List ℕ} {r : Comparison} {c d : Counts} → (filesOf first second ≡ Alike c d) ⊎ (filesOf first second ≡ Apart c d) → Answers 256 512 (tableRefusals 256 2048 512 one two) one two old new r → Answers 256 512 behindMemory one two old new r
   files-both e a = record { answer = a .answer ∙ sym (files-passed first second Refused (tableRefusals 256 2048 512 one two) (answerOf (verdict one two 256 512)) e); buffer = a .buffer }
 
   module _ (words : ℕ) (old : List ℕ) where
@@ -115,7 +122,7 @@ module _ (first second : List ℕ) where
     Whole new r = (r ≡ comparisonOf first second words (length old)) × (new ≡ bufferOf r (shownWord first second) old)
 
     opened : {new : List ℕ} {r : Comparison} → Answers 256 512 ((ltb words 8192 || ltb (length old) 512, 24, 0) ∷ behindMemory) one two old new r → Whole new r
-    unfolding comparisonOf shownWord refusals pairRefusals
+    unfolding comparisonOf shownWord verdictOf refusals pairRefusals withLetters
     opened a = (a .answer, a .buffer)
 
     -- 24

@@ -5,8 +5,10 @@ use mathlib.Core.List.{List}
 use Prim.Native.Nat.{ℕ}
 use Rattle.automata.specs.Automaton.{Automaton}
 use Rattle.automata.specs.Pairs.{verdict}
+use Rattle.relettering.specs.Relettering.{relettered}
 use Rattle.format.specs.Decoding.{automatonOf}
 use Rattle.format.specs.Refusals.{unlessRefused}
+use Rattle.file_pair.specs.Pair.{lettersOf}
 use Rattle.compare_promise.specs.Comparing.{answerOf, bufferOf, bytesIn}
 use Rattle.compare_promise.specs.declared.Comparison.{Comparison}
 use Rattle.compare_promise.specs.declared.Comparison.the-variants.{Refused}
@@ -17,6 +19,10 @@ pub record Answers (L P : ℕ) (left : List (Bool × ℕ × ℕ)) (x y : Automat
   pub answer : r ≡ unlessRefused Refused left (answerOf (verdict x y L P))
   pub buffer : new ≡ bufferOf r (bytesIn (x .alphabet) (verdict x y L P)) old
 
--- the same of the automata in two files, at document 01's limits
-abbrev pub FilesAnswer : (left : Automaton → Automaton → List (Bool × ℕ × ℕ)) (first second old new : List ℕ) → Comparison → Type 0
-FilesAnswer left first second old new r = Answers 256 512 (left (automatonOf first) (automatonOf second)) (automatonOf first) (automatonOf second) old new r
+-- the same at document 01's limits
+abbrev pub AnswersAtLimits : (left : Automaton → Automaton → List (Bool × ℕ × ℕ)) (x y : Automaton) (old new : List ℕ) → Comparison → Type 0
+AnswersAtLimits left x y old new r = Answers 256 512 (left x y) x y old new r
+
+-- of the automata in two files, over the letters of both
+abbrev pub AnswersOver : (left : Automaton → Automaton → List (Bool × ℕ × ℕ)) (first second old new : List ℕ) → Comparison → Type 0
+AnswersOver left first second old new r = AnswersAtLimits left (relettered (lettersOf first second) (automatonOf first)) (relettered (lettersOf first second) (automatonOf second)) old new r

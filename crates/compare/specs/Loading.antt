@@ -6,7 +6,6 @@ use lib.ListN.{length}
 use Rattle.automata.specs.Automaton.{Automaton, letters}
 use Rattle.automata.specs.Unfolding.{configurations, finalSet, plainArcs}
 use Rattle.automata.specs.Words.{SameLetters}
-use Rattle.format.specs.Decoding.{automatonOf}
 use Rattle.format.specs.Refusals.{unlessRefused}
 use Rattle.word_sets.specs.Sets.{view}
 use Rattle.table_sets.specs.Stepping.{Tells}
@@ -25,11 +24,11 @@ pub record Prepared (x : Automaton) (L : ℕ) (w : List ℕ) (s : Standing) : Ty
 abbrev pub limitOf : (L M : ℕ) → Automaton → ℕ
 limitOf L M x = unlessRefused (λ n b. n) (limitRefusals L M x 1) 0
 
--- what loading the automaton of a file answers: the number of the refusal; where it is 0, the automaton stands in the block from `base` on
-pub record Loads (file : List ℕ) (M : ℕ) (w : List ℕ) (base : ℕ) (r : Loaded) : Type 0 where
-  pub refused : r .refusal ≡ limitOf 256 M (automatonOf file)
+-- what loading x answers: the number of the refusal; where it is 0, x stands in the block from `base` on
+pub record Loads (x : Automaton) (M : ℕ) (w : List ℕ) (base : ℕ) (r : Loaded) : Type 0 where
+  pub refused : r .refusal ≡ limitOf 256 M x
   pub place : r .refusal ≡ 0 → r .standing .block .base ≡ base
-  pub prepared : r .refusal ≡ 0 → Prepared (automatonOf file) 256 w (r .standing)
+  pub prepared : r .refusal ≡ 0 → Prepared x 256 w (r .standing)
 
 -- two automata with the same letters are ready to be compared
 pub record Comparable (x y : Automaton) (L : ℕ) (w : List ℕ) (one two : Standing) (letters : List ℕ) : Type 0 where

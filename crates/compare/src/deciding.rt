@@ -16,8 +16,8 @@ use compare_witness::judge_pair;
 use compare_witness::put_word;
 use live_table::Grown;
 
-// All pairs are explored, whether or not one of them differs, and the word of the first that differs is shown in the bytes `letters`, which
-// the first file lists. Refuses 23: more than 512 pairs.
+// All pairs are explored, whether or not one of them differs, and the word of the first that differs is shown in the bytes `letters`.
+// Refuses 23: more than 512 pairs.
 // Cost: for each pair one row for each plain arc of a live configuration, and a look into the table for each letter that is met.
 pub fn decide(
     w: &mut [u64],

@@ -2,12 +2,16 @@
 ghost use mathlib.Core.Path.{_≡_};
 ghost use Prim.Native.Nat.{_≤_};
 ghost use lib.ListN.{length};
+ghost use Rattle.automata.specs.Words.{SameLetters};
+ghost use Rattle.format.specs.Decoding.{automatonOf};
+ghost use Rattle.file_pair.specs.Lettered.{Lettered, automatonOver};
 ghost use Rattle.file_pair.specs.Pair.{Joinable};
 ghost use Rattle.compare_promise.specs.Comparing.{bufferOf, comparisonOf, shownWord, tableRefusals};
 pub use compare_promise::Comparison;
-ghost use Rattle.compare.specs.Answers.{FilesAnswer};
+ghost use Rattle.compare.specs.Answers.{AnswersAtLimits, AnswersOver};
 use deciding::decide;
 use file_pair::Files;
+use file_pair::letter_files;
 use file_pair::read_files;
 use format::Counts;
 use format::fields::flags_at;
@@ -18,9 +22,42 @@ use word_layout::SECOND_BLOCK;
 mod deciding;
 mod loading;
 
-// Two valid files with the same letters: the automaton of each is loaded, and then both are decided.
+// Two valid files over the same letters: the automaton of each is loaded, by the new numbers of its letters, and then both are decided.
 // Cost: what loading and deciding take.
 fn compare_files(
+    first: &[u8],
+    a: Counts,
+    one: &[u8],
+    second: &[u8],
+    b: Counts,
+    two: &[u8],
+    letters: &[u8],
+    w: &mut [u64],
+    word: &mut [u8],
+) -> Comparison
+    requires { ⌜ Lettered a b (now first) (now second) (now one) (now two) (now letters) × ((8192 ≤ length (now w)) × (512 ≤ length (now word))) ⌝ }
+    ensures same { λ _. ⌜ length (now (w .exit)) ≡ length (now (w .entry)) ⌝ }
+    ensures answers { λ r. ⌜ AnswersAtLimits (tableRefusals 256 2048 512) (automatonOver (now (one .entry)) (now (letters .entry)) (now (first .entry))) (automatonOver (now (two .entry)) (now (letters .entry)) (now (second .entry))) (now (word .entry)) (now (word .exit)) r ⌝ }
+{
+    let x = load(first, a, one, w, FIRST_BLOCK);
+    if x.refusal != 0 {
+        return Comparison::Refused {
+            number: x.refusal,
+            automaton: 1,
+        };
+    }
+    let y = load(second, b, two, w, SECOND_BLOCK);
+    if y.refusal != 0 {
+        return Comparison::Refused {
+            number: y.refusal,
+            automaton: 2,
+        };
+    }
+    decide(w, x.standing, y.standing, letters, word)
+}
+
+// Two files whose letter lists agree: no letter gets a new number. Cost: what comparing the files takes.
+fn compare_alike(
     first: &[u8],
     a: Counts,
     second: &[u8],
@@ -28,37 +65,67 @@ fn compare_files(
     w: &mut [u64],
     word: &mut [u8],
 ) -> Comparison
-    requires { ⌜ Joinable a b (now first) (now second) × ((8192 ≤ length (now w)) × (512 ≤ length (now word))) ⌝ }
+    requires { ⌜ Joinable a b (now first) (now second) × SameLetters (automatonOf (now first)) (automatonOf (now second)) × (8192 ≤ length (now w)) × (512 ≤ length (now word)) ⌝ }
     ensures same { λ _. ⌜ length (now (w .exit)) ≡ length (now (w .entry)) ⌝ }
-    ensures answers { λ r. ⌜ FilesAnswer (tableRefusals 256 2048 512) (now (first .entry)) (now (second .entry)) (now (word .entry)) (now (word .exit)) r ⌝ }
+    ensures answers { λ r. ⌜ AnswersOver (tableRefusals 256 2048 512) (now (first .entry)) (now (second .entry)) (now (word .entry)) (now (word .exit)) r ⌝ }
 {
-    let one = load(first, a, w, FIRST_BLOCK);
-    if one.refusal != 0 {
-        return Comparison::Refused {
-            number: one.refusal,
-            automaton: 1,
-        };
-    }
-    let two = load(second, b, w, SECOND_BLOCK);
-    if two.refusal != 0 {
-        return Comparison::Refused {
-            number: two.refusal,
-            automaton: 2,
-        };
-    }
     let end = flags_at(a);
-    decide(w, one.standing, two.standing, &first[12..end], word)
+    compare_files(
+        first,
+        a,
+        &first[0..0],
+        second,
+        b,
+        &second[0..0],
+        &first[12..end],
+        w,
+        word,
+    )
 }
 
-// Do the automata of two files accept the same words? Where they do not, the first word that exactly one accepts stands at the front of
-// the word buffer, in the first file's bytes, and what was lent behind it is as it was; else all of the buffer is. Words come in order by
-// their length, and then by the places of their letters in the letter list. Refuses, in this order: fewer than 8,192 working words or a
-// buffer of fewer than 512 bytes, 24; a fault of the first file, as `format::read` tells it; of the second; letter lists that do not
-// agree, 10; more than 256 configurations of the first, 21, or more than 2,048 plain arcs, 22; the same of the second; more than 512
-// pairs, 23. One thing is free: what the working words hold afterwards.
+// Two files over their joined letter list. Cost: what joining the lists and comparing the files takes.
+fn compare_apart(
+    first: &[u8],
+    a: Counts,
+    second: &[u8],
+    b: Counts,
+    w: &mut [u64],
+    word: &mut [u8],
+) -> Comparison
+    requires { ⌜ Joinable a b (now first) (now second) × (8192 ≤ length (now w)) × (512 ≤ length (now word)) ⌝ }
+    ensures same { λ _. ⌜ length (now (w .exit)) ≡ length (now (w .entry)) ⌝ }
+    ensures answers { λ r. ⌜ AnswersOver (tableRefusals 256 2048 512) (now (first .entry)) (now (second .entry)) (now (word .entry)) (now (word .exit)) r ⌝ }
+{
+    let m = a.letters;
+    let n = b.letters;
+    let l = letter_files(a, first, b, second);
+    let count = l.count;
+    let one = l.first;
+    let two = l.second;
+    let letters = l.letters;
+    compare_files(
+        first,
+        a,
+        &one[0..m],
+        second,
+        b,
+        &two[0..n],
+        &letters[0..count],
+        w,
+        word,
+    )
+}
+
+// Do the automata of two files accept the same words? They are compared over the letters of both: one that lacks a letter accepts no word
+// that has it. Where they do not accept the same, the first word that exactly one accepts stands at the front of the word buffer, in the
+// bytes of the joined letter list, and what was lent behind it is as it was; else all of the buffer is. Words come in order by their
+// length, and then by the places of their letters in that list. Refuses, in this order: fewer than 8,192 working words or a buffer of
+// fewer than 512 bytes, 24; a fault of the first file, as `format::read` tells it; of the second; more than 64 letters together, 11; more
+// than 256 configurations of the first, 21, or more than 2,048 plain arcs, 22; the same of the second; more than 512 pairs, 23. One thing
+// is free: what the working words hold afterwards.
 // Cost: b + k * o + k * k + n * (p + a) steps, where b is the number of bytes of the files, o that of their arcs and operations, k that of
 // their configurations, p that of their plain arcs, a that of the letters and n that of the pairs; and as many more as pairs, or
-// configurations, have the key of one that is looked up. Nothing is allocated.
+// configurations, have the key of one that is looked up; and a * a where the letter lists do not agree. Nothing is allocated.
 pub fn compare(first: &[u8], second: &[u8], work: &mut [u64], word: &mut [u8]) -> Comparison
     ensures same { λ _. ⌜ length (now (work .exit)) ≡ length (now (work .entry)) ⌝ }
     ensures answer { λ r. ⌜ r ≡ comparisonOf (now (first .entry)) (now (second .entry)) (length (now (work .entry))) (length (now (word .entry))) ⌝ }
@@ -78,6 +145,7 @@ pub fn compare(first: &[u8], second: &[u8], work: &mut [u64], word: &mut [u8]) -
     }
     match read_files(first, second) {
         Files::Fault(number, automaton) => Comparison::Refused { number, automaton },
-        Files::Both(a, b) => compare_files(first, a, second, b, work, word),
+        Files::Alike(a, b) => compare_alike(first, a, second, b, work, word),
+        Files::Apart(a, b) => compare_apart(first, a, second, b, work, word),
     }
 }

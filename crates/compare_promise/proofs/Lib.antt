@@ -1,3 +1,4 @@
+pub mod OverLetters
 pub mod ShownBytes
 pub mod Refusals
 pub mod Promise

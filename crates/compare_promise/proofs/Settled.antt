@@ -1,6 +1,6 @@
 -- Settled: what is promised of comparing leaves nothing open. Two answers to one call that both keep the promise are one answer, and the
 -- buffers that they leave hold the same bytes: whoever compares the same files is shown the same word (document 02, change 1), in the
--- same bytes (change 4).
+-- same bytes (changes 4 and 6).
 use mathlib.Core.Path.{_≡_, _∙_, ap, ap₂, refl, sym}
 use mathlib.Core.Logic.{_⊎_, inl, inr}
 use mathlib.Core.List.{List, _++_}
@@ -8,14 +8,16 @@ use Prim.Native.Nat.{ℕ}
 use native.Mathlib.Omega.{arith}
 use lib.ListN.{drop, length, length-take, take, take-append-drop}
 use Rattle.automata.specs.Automaton.{Automaton}
-use Rattle.automata.specs.Words.{Language}
+use Rattle.automata.specs.Pairs.{OneAccepts}
+use Rattle.automata.specs.Words.{Language, Spells}
 use Rattle.automata.proofs.Laws.{counting-unique, spelled-one}
+use Rattle.relettering.specs.Relettering.{withLetters}
 use Rattle.format.specs.Decoding.{automatonOf}
 use Rattle.compare_promise.specs.Comparing.{told}
-use Rattle.compare_promise.specs.Promised.{Either, Premises, Promised}
+use Rattle.compare_promise.specs.Promised.{Either, Premises, Promised, lettersIn, overAll}
 use Rattle.compare_promise.specs.declared.Comparison.{Comparison}
 use Rattle.compare_promise.specs.declared.Comparison.the-variants.{Different, Refused, Same}
-use Rattle.compare_promise.proofs.Promise.{well-formed}
+use Rattle.compare_promise.proofs.OverLetters.{either-own, formed₁, formed₂, letters-apart, shared-letters}
 use Rattle.compare_promise.proofs.ShownBytes.{one-spells}
 
 -- one word has one taker
@@ -40,6 +42,15 @@ module _ (first second : List ℕ) (words : ℕ) (old : List ℕ) where
   abbrev y : Automaton
   y = automatonOf second
 
+  abbrev all : List ℕ
+  all = lettersIn first second
+
+  abbrev x' : Automaton
+  x' = overAll first second first
+
+  abbrev y' : Automaton
+  y' = overAll first second second
+
   -- a refusal comes where a premise does not hold
   not-refused : (new : List ℕ) (n b : ℕ) → Keeps new (Refused n b) → ¬ Granted
   not-refused new n b q p = q .different .1 (p, λ e. q .same .1 (p, e))
@@ -60,12 +71,14 @@ module _ (first second : List ℕ) (words : ℕ) (old : List ℕ) where
     same-size = omega (arith, p .shortest tt (take s′ new′) one′, q .shortest tt (take s new) one, length-take s new, length-take s′ new′, p .whole, q .whole)
 
     same-word : take s new ≡ take s′ new′
+    unfolding withLetters
     same-word =
-        let formed₁ = well-formed first (premises .valid₁) in
-        let formed₂ = well-formed second (premises .valid₂) in
-        let u = one-spells x y formed₁ formed₂ (premises .same-letters) (take s new) one in
-        let u′ = one-spells x y formed₁ formed₂ (premises .same-letters) (take s′ new′) one′ in
-        spelled-one (x .alphabet) (formed₁ .letters-apart) (take s new) (take s′ new′) (u .0) (u′ .0) (p .written tt) (q .written tt) (u .1) (u′ .1) (q .earliest tt .first (take s new) one) (p .earliest tt .first (take s′ new′) one′)
+        let v₁ = premises .valid₁ in
+        let v₂ = premises .valid₂ in
+        let spelled : (w : List ℕ) → Either (Language x w) (Language y w) → (v : List ℕ) × Spells all w v × OneAccepts x' y' v = λ w o. one-spells x' y' (formed₁ first second v₁ v₂) (formed₂ first second v₁ v₂) (shared-letters all x y) w (either-own first second v₁ v₂ w .1 o) in
+        let u = spelled (take s new) one in
+        let u′ = spelled (take s′ new′) one′ in
+        spelled-one all (letters-apart first second v₁ v₂) (take s new) (take s′ new′) (u .0) (u′ .0) (p .written tt) (q .written tt) (u .1) (u′ .1) (q .earliest tt .first (take s new) one) (p .earliest tt .first (take s′ new′) one′)
 
     same-taker : k ≡ k′
     same-taker = one-taker k k′ (p .shows tt) (rw same-word (q .shows tt))

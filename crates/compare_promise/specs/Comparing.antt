@@ -1,6 +1,7 @@
 -- Comparing: what comparing answers of two files, the number of working words and the size of the buffer for the shown word, and what
--- it leaves in that buffer (document 01, 'Comparing' and the order of refusals; document 02, changes 1 and 4). Words are lists of bytes.
-use mathlib.Core.Bool.{Bool, false, not, true, _||_}
+-- it leaves in that buffer (document 01, 'Comparing' and the order of refusals; document 02, changes 1, 4 and 6). Words are lists of bytes.
+-- The two automata are compared over the letters of both, so that a letter that one of them lacks leads it nowhere.
+use mathlib.Core.Bool.{Bool, false, true, _||_}
 use mathlib.Core.List.{List, [], _∷_, _++_, map}
 use Prim.Native.Nat.{ℕ}
 use lib.Dec.{ltb}
@@ -8,7 +9,7 @@ use lib.ListN.{drop, getD, length}
 use Rattle.automata.specs.Automaton.{Automaton}
 use Rattle.automata.specs.Pairs.{Verdict, different, pairs, same, verdict}
 use Rattle.automata.specs.Unfolding.{configurations, plainArcs}
-use Rattle.automata.specs.Words.{sameLetters}
+use Rattle.relettering.specs.Relettering.{lettersOfBoth, overBoth}
 use Rattle.format.specs.Decoding.{automatonOf}
 use Rattle.format.specs.Refusals.{faultOf, unlessRefused}
 use Rattle.compare_promise.specs.declared.Comparison.{Comparison}
@@ -32,16 +33,16 @@ unfoldable pub tableRefusals : (L M P : ℕ) → Automaton → Automaton → Lis
 unfolding limitRefusals countRefusals
 tableRefusals L M P x y = limitRefusals L M x 1 ++ limitRefusals L M y 2 ++ countRefusals L P x y
 
--- of the call: 24, working memory under 8,192 words or a buffer under 512 bytes; the first file's fault; the second's; 10, the letter
--- lists do not agree; and those above
+-- of the call: 24, working memory under 8,192 words or a buffer under 512 bytes; the first file's fault; the second's; 11, more than 64
+-- letters together; and those above
 unfoldable pub refusals : (L M P : ℕ) (first second : List ℕ) (words buffer : ℕ) → List (Bool × ℕ × ℕ)
 unfolding tableRefusals
 refusals L M P first second words buffer =
     (ltb words 8192 || ltb buffer 512, 24, 0)
     ∷ (ltb 0 (faultOf first), faultOf first, 1)
     ∷ (ltb 0 (faultOf second), faultOf second, 2)
-    ∷ (not (sameLetters (automatonOf first) (automatonOf second)), 10, 0)
-    ∷ tableRefusals L M P (automatonOf first) (automatonOf second)
+    ∷ (ltb 64 (length (lettersOfBoth (automatonOf first) (automatonOf second))), 11, 0)
+    ∷ overBoth (tableRefusals L M P) (automatonOf first) (automatonOf second)
 
 -- ---- the answer
 -- that of a verdict, whose word it tells by its length
@@ -54,15 +55,19 @@ abbrev pub bytesIn : (alphabet : List ℕ) → Verdict → List ℕ
 bytesIn alphabet (same n) = []
 bytesIn alphabet (different n taker v) = map (λ (l : ℕ). getD alphabet l 0) v
 
--- the whole answer, at document 01's limits
-unfoldable pub comparisonOf : (first second : List ℕ) (words buffer : ℕ) → Comparison
-unfolding refusals unlessRefused
-comparisonOf first second words buffer =
-    unlessRefused Refused (refusals 256 2048 512 first second words buffer) (answerOf (verdict (automatonOf first) (automatonOf second) 256 512))
+-- the verdict on the automata of two files, at document 01's limits
+unfoldable pub verdictOf : (first second : List ℕ) → Verdict
+verdictOf first second = overBoth (λ x y. verdict x y 256 512) (automatonOf first) (automatonOf second)
 
--- the word that is shown, in the bytes of the first file's letters
+-- the whole answer
+unfoldable pub comparisonOf : (first second : List ℕ) (words buffer : ℕ) → Comparison
+unfolding refusals unlessRefused verdictOf
+comparisonOf first second words buffer = unlessRefused Refused (refusals 256 2048 512 first second words buffer) (answerOf (verdictOf first second))
+
+-- the word that is shown, in the bytes of the joined letter list
 unfoldable pub shownWord : (first second : List ℕ) → List ℕ
-shownWord first second = bytesIn (automatonOf first .alphabet) (verdict (automatonOf first) (automatonOf second) 256 512)
+unfolding verdictOf
+shownWord first second = bytesIn (lettersOfBoth (automatonOf first) (automatonOf second)) (verdictOf first second)
 
 -- what stands in the buffer afterwards: the shown word and then what was lent behind it; where no word is shown, what was lent
 abbrev pub bufferOf : Comparison → (word old : List ℕ) → List ℕ

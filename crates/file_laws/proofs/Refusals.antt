@@ -2,7 +2,7 @@
 -- specs/Refusals.antt).
 use mathlib.Core.Path.{_≡_, _∙_, ap, ap₂, refl, subst, sym}
 use mathlib.Core.Logic.{_↔_, _⊎_, inl, inr, ⊎-elim}
-use mathlib.Core.Bool.{Bool, _||_, cond, false, not, true}
+use mathlib.Core.Bool.{Bool, _||_, cond, false, true}
 use mathlib.Core.List.{List, [], _∷_}
 use Prim.Native.Nat.{ℕ, _<_, _≤_}
 use native.Mathlib.Decide.{decLt}
@@ -12,8 +12,7 @@ use lib.ListN.{length}
 use Rattle.automata.specs.Automaton.{Automaton, Reachable}
 use Rattle.automata.specs.Counting.{MoreThan}
 use Rattle.automata.specs.Unfolding.{configurations}
-use Rattle.automata.specs.Words.{SameLetters, sameLetters}
-use Rattle.automata.proofs.Laws.{iff-trans, not-iff, or-iff, reaching-more, sameLetters-iff}
+use Rattle.automata.proofs.Laws.{iff-trans, or-iff, reaching-more}
 use Rattle.file_fields.specs.Parts.{numberOf}
 use Rattle.format.specs.Reading.{readingOf}
 use Rattle.format.specs.Refusals.{FirstHolds, faultOf, unlessRefused}
@@ -104,17 +103,6 @@ at-least m n h = go (decLt m n)
 -- an automaton reaches more than L configurations
 pub reach-decided : (x : Automaton) (L n k : ℕ) → 0 < n → Decides (ltb L (length (configurations x L)), n, k) (MoreThan (Reachable x) L, n, k)
 reach-decided x L n k h = decided _ n k (iff-trans (less-iff L (length (configurations x L))) (reaching-more x L)) (λ _. h)
-
--- the letter lists do not agree; or they do
-pub letters-decided : (x y : Automaton) → Decides (not (sameLetters x y), 10, 0) (¬ SameLetters x y, 10, 0)
-letters-decided x y = let e = sameLetters-iff x y in decided _ 10 0 (iff-trans (not-iff (sameLetters x y)) (λ n p. n (e .1 p), λ n t. n (e .0 t))) (λ _. omega arith)
-
-pub same-letters : (x y : Automaton) → ¬ (¬ SameLetters x y) → SameLetters x y
-same-letters x y h = go (sameLetters x y) (sameLetters-iff x y)
-  where
-    go : (b : Bool) → T b ↔ SameLetters x y → SameLetters x y
-    go true f = f .0 tt
-    go false f = absurd (h (f .1))
 
 -- a file has a fault; one that has none is valid
 pub fault-decided : (file : List ℕ) (k : ℕ) → Decides (ltb 0 (faultOf file), faultOf file, k) (0 < faultOf file, faultOf file, k)

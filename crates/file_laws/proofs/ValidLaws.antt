@@ -3,10 +3,10 @@
 use mathlib.Core.Path.{_≡_, refl, sym, ap, _∙_, subst}
 use mathlib.Core.Bool.{true}
 use mathlib.Core.List.{List, map}
-use Prim.Native.Nat.{ℕ, zero, suc, _+_, _*_, _≤_}
+use Prim.Native.Nat.{ℕ, zero, suc, _+_, _-_, _*_, _≤_}
 use native.Mathlib.Omega.{arith}
 use borrow.Author.Tests.{leb-true, le-leb}
-use lib.ListN.{length, drop, length-drop, length-take, length-map}
+use lib.ListN.{length, drop, take, length-drop, length-take, length-map}
 use Rattle.automata.specs.Automaton.{Automaton, WellFormed}
 use Rattle.automata.specs.Letters.{unlike}
 use Rattle.file_fields.specs.declared.Counts.{Counts}
@@ -19,7 +19,7 @@ use Rattle.format.specs.Limits.{Ranges, Fits}
 use Rattle.format.specs.Placed.{whole, OkArcs, Lies}
 use Rattle.automata.specs.Lists.{Each}
 use Rattle.automata.proofs.Laws.{each-join, unlike-iff}
-use Rattle.file_fields.proofs.Laws.{Hold, Holds, hold-valid, letters-length, valid-hold}
+use Rattle.file_fields.proofs.Laws.{Hold, Holds, hold-valid, lent-letters, letters-length, valid-hold}
 use Rattle.format.proofs.Laws.{HeaderSeen, bodyTests, header-seen, seen-header}
 use Rattle.file_laws.proofs.Fitting.{ArcFits, fits-by}
 use Rattle.file_laws.proofs.ArcLaws.{ArcsSeen, arcs-seen, arcs-count}
@@ -105,6 +105,10 @@ module _ (s : List ℕ) (c : Counts) where
     pub valid-alphabet : automatonOf s .alphabet ≡ letterBytes c s
     unfolding decoded
     valid-alphabet = ap (λ (x : Automaton). x .alphabet) valid-decoded
+
+    -- the letters, where the part of the file up to their end is lent
+    pub lent-alphabet : (end : ℕ) → end ≡ 12 + c .letters → take (end - 12) (drop 12 s) ≡ automatonOf s .alphabet
+    lent-alphabet end e = ap (λ (n : ℕ). take (n - 12) (drop 12 s)) e ∙ lent-letters c s ∙ sym valid-alphabet
 
     pub valid-arcs : automatonOf s .arcs ≡ arcsOf (c .arcs) (drop (firstArc c) s)
     unfolding decoded

@@ -1,3 +1,5 @@
 -- Laws: the laws of this crate that crates above cite. A law that is not named here may change.
 -- two files that are to be joined or compared: what is known of them, and the refusals of a call behind theirs
-pub use Rattle.file_pair.proofs.PairLaws.{both-joinable, files-passed, files-refused}
+pub use Rattle.file_pair.proofs.PairLaws.{alike-joinable, apart-joinable, files-passed, files-refused}
+-- over which letters, and by which numbers, the automata of two such files are joined or compared
+pub use Rattle.file_pair.proofs.LetteredLaws.{alike-over, apart-over, lettered-few}

@@ -1,3 +1,3 @@
-pub mod LetterListLaws
 pub mod PairLaws
+pub mod LetteredLaws
 pub mod Laws

@@ -1,51 +1,42 @@
 // file_pair: two files that a call is handed together: their counts, or the refusal of the first fault (document 01, the order of
-// refusals). What joins and compares them goes on from here.
+// refusals; document 02, change 6). What joins and compares them goes on from here.
 ghost use mathlib.Core.Path.{_≡_};
-ghost use lib.Dec.{eqb};
-ghost use Rattle.automata.specs.Letters.{keys, sameKey};
-ghost use Rattle.automata.specs.Lists.{sameBy};
-ghost use Rattle.file_pair.specs.Pair.{filesOf};
-use file_fields::letters::key_of;
+ghost use Prim.Native.Nat.{_≤_};
+ghost use lib.ListN.{length, take};
+ghost use Rattle.file_pair.specs.Lettered.{OverBoth};
+ghost use Rattle.file_pair.specs.Pair.{Joinable, byLetters, filesOf};
+use file_letters::agreeing::same_letters;
+use file_letters::joining::Lettering;
+use file_letters::joining::count_joined;
+use file_letters::joining::join_letters;
 use format::Counts;
 use format::Reading;
 use format::fields::flags_at;
 
-// Their counts, or a refusal's number and the automaton at fault.
+// Their counts, told apart by whether their letter lists agree; or a refusal's number and the automaton at fault.
 pub enum Files {
-    Both(Counts, Counts),
+    Alike(Counts, Counts),
+    Apart(Counts, Counts),
     Fault(u8, u8),
 }
 
-// Whether two bytes stand for one letter. Cost: constant.
-fn is_same_letter(one: u8, other: u8) -> bool
-    ensures { λ r. ⌜ r ≡ sameKey one other ⌝ }
+// Two valid files by their letters: whether the lists agree, or 11, more than 64 letters together. Lists that agree have no more than one
+// of them and short ones no more than 64, so that these are not counted. Cost: the letters, or else their pairs.
+fn judge_letters(a: Counts, letters: &[u8], b: Counts, others: &[u8]) -> Files
+    requires { ⌜ (length (now letters) ≤ 64) × (length (now others) ≤ 64) ⌝ }
+    ensures { λ r. ⌜ r ≡ byLetters a b (now (letters .entry)) (now (others .entry)) ⌝ }
 {
-    let left = key_of(one);
-    let right = key_of(other);
-    left == right
+    if same_letters(letters, others) {
+        return Files::Alike(a, b);
+    }
+    if 64 < letters.len() + others.len() && 64 < count_joined(letters, others) {
+        return Files::Fault(11, 0);
+    }
+    Files::Apart(a, b)
 }
 
-// Whether two lists are of the same letters, place by place (document 02, change 4). Refuses nothing. Cost: the bytes up to the first that
-// stands for another letter; keys are found only where bytes differ.
-fn same_letters(left: &[u8], right: &[u8]) -> bool
-    ensures { λ r. ⌜ r ≡ sameBy eqb (keys (now (left .entry))) (keys (now (right .entry))) ⌝ }
-{
-    if left.len() != right.len() {
-        return false;
-    }
-    let mut i: usize = 0;
-    while i < left.len() {
-        let one = left[i];
-        let other = right[i];
-        if one != other && !is_same_letter(one, other) {
-            return false;
-        }
-        i += 1;
-    }
-    true
-}
-
-// The first file's faults, the second's, then 10: the letter lists do not agree. Cost: what reading each file takes.
+// The first file's faults, the second's, then 11: more than 64 letters together. Cost: what reading each file takes, and what judging their
+// letters does.
 pub fn read_files(first: &[u8], second: &[u8]) -> Files
     ensures { λ r. ⌜ r ≡ filesOf (now (first .entry)) (now (second .entry)) ⌝ }
 {
@@ -59,8 +50,17 @@ pub fn read_files(first: &[u8], second: &[u8]) -> Files
     };
     let end = flags_at(a);
     let other = flags_at(b);
-    if !same_letters(&first[12..end], &second[12..other]) {
-        return Files::Fault(10, 0);
-    }
-    Files::Both(a, b)
+    judge_letters(a, &first[12..end], b, &second[12..other])
+}
+
+// The letters of two files together, and the new numbers of the letters of each. Refuses nothing. Cost: the pairs of letters.
+pub fn letter_files(a: Counts, first: &[u8], b: Counts, second: &[u8]) -> Lettering
+    requires { ⌜ Joinable a b (now first) (now second) ⌝ }
+    ensures arrays { λ r. ⌜ (length (r .letters) ≡ 64) × (length (r .first) ≡ 64) × (length (r .second) ≡ 64) ⌝ }
+    ensures few { λ r. ⌜ r .count ≤ 64 ⌝ }
+    ensures over { λ r. ⌜ OverBoth a b (now (first .entry)) (now (second .entry)) (take (a .letters) (r .first)) (take (b .letters) (r .second)) (take (r .count) (r .letters)) ⌝ }
+{
+    let end = flags_at(a);
+    let other = flags_at(b);
+    join_letters(&first[12..end], &second[12..other])
 }

@@ -1,16 +1,12 @@
 -- FileParts: the parts of a file as writers meet them: header, letters, flags, arcs; and the output once a whole file is written.
-use mathlib.Core.Path.{_∙_, _≡_, ap, refl, sym}
+use mathlib.Core.Path.{_∙_, _≡_, refl, sym}
 use mathlib.Core.List.{List, [], _++_, _∷_, append-assoc, map}
 use Prim.Native.Nat.{_+_, ℕ}
 use native.Mathlib.Omega.{arith}
 use lib.ListN.{drop, length, length-append}
 use Rattle.automata.specs.Automaton.{Arc, Automaton}
 use Rattle.file_fields.specs.declared.Counts.{Counts}
-use Rattle.file_fields.specs.declared.Reading.the-variants.{Valid}
-use Rattle.format.specs.Decoding.{automatonOf}
 use Rattle.format.specs.Encoding.{arcBytes, arcsBytes, bytesOf, flagByte, headerBytes, sizes}
-use Rattle.format.specs.Reading.{readingOf}
-use Rattle.file_laws.proofs.Laws.{valid-sizes}
 use Rattle.file_writing.specs.Placing.{Appended}
 use Rattle.file_writing.proofs.Placed.{appended-length}
 
@@ -19,8 +15,8 @@ unfolding headerBytes
 header-length c = refl
 
 -- header and letters stand before the flags
-pub front-ends : (s : List ℕ) (c : Counts) → readingOf s ≡ Valid c → (d : Counts) {old out : List ℕ} {next : ℕ} → Appended 0 (headerBytes d ++ automatonOf s .alphabet) old out next → (next ≡ 12 + c .letters) × (length out ≡ length old)
-front-ends s c e d w = (omega (arith, w .behind, length-append (headerBytes d) (automatonOf s .alphabet), header-length d, ap (λ (n : Counts). n .letters) (valid-sizes s c e)), appended-length w)
+pub front-ends : (c : Counts) (letters : List ℕ) {old out : List ℕ} {next : ℕ} → Appended 0 (headerBytes c ++ letters) old out next → (next ≡ 12 + length letters) × (length out ≡ length old)
+front-ends c letters w = (omega (arith, w .behind, length-append (headerBytes c) letters, header-length c), appended-length w)
 
 pub arcs-append : (l r : List Arc) → arcsBytes (l ++ r) ≡ arcsBytes l ++ arcsBytes r
 unfolding arcsBytes

@@ -11,18 +11,22 @@ use lib.Seq.{drop-at, take-at}
 use Rattle.automata.specs.Automaton.{Automaton, WellFormed}
 use Rattle.automata.specs.Joins.{closure}
 use Rattle.automata.specs.Words.{Language, SameLetters}
-use Rattle.automata.proofs.Laws.{closing}
+use Rattle.automata.proofs.Laws.{closing, iff-trans}
+use Rattle.relettering.specs.Relettering.{relettered, withLetters}
+use Rattle.relettering.proofs.Laws.{first-inside, relettered-language, second-inside}
 use Rattle.format.specs.Decoding.{automatonOf}
 use Rattle.format.specs.Encoding.{bytesOf}
 use Rattle.format.specs.Limits.{Fits}
 use Rattle.file_fields.specs.Parts.{numberOf}
 use Rattle.format.specs.Refusals.{FirstHolds, faultOf}
-use Rattle.file_laws.proofs.Laws.{Decide, Decides, NoneHolds, Outcome, at-least, decided, fault-decided, first-exactly, first-some, less-decided, letters-decided, no-fault, none-first, refused-or-not, round-trip, same-letters, valid-fits}
+use Rattle.file_laws.proofs.Laws.{Decide, Decides, NoneHolds, Outcome, at-least, decided, fault-decided, first-exactly, first-some, less-decided, no-fault, none-first, refused-or-not, round-trip, valid-fits}
 use Rattle.file_writing.specs.Answers.{outputOf, told}
 use Rattle.file_writing.proofs.Laws.{refusal-sizeless}
 use Rattle.file_writing.specs.declared.Written.{Written}
 use Rattle.file_writing.specs.declared.Written.the-variants.{Bytes, Refused}
-use Rattle.join_parts.specs.Joining.{beyond, closeRefusals, closedOf, joinRefusals, joinedOf}
+use Rattle.file_pair.specs.Pair.{lettersOf}
+use Rattle.file_pair.proofs.Laws.{apart-over}
+use Rattle.join_parts.specs.Joining.{beyond, closeRefusals, closedOf, joinOf, joinRefusals, joinedOf}
 use Rattle.join.specs.Promises.{Beyond, ClosurePromised, FileOf, JoinPromised, Promised, ValidPair, closeConditions, joinConditions}
 use Rattle.join.proofs.BeyondLaws.{beyond-iff, not-beyond}
 use Rattle.join_closure.proofs.Laws.{closure-fits}
@@ -89,7 +93,12 @@ module _ (join : Automaton → Automaton → Automaton) (Words : (P Q : List ℕ
     (fits : (a b : Automaton) → Fits a → Fits b → SameLetters a b → beyond (join a b) ≡ false → Fits (join a b))
     (lists : (a b : Automaton) → join a b .alphabet ≡ a .alphabet)
     (accepts : (a b : Automaton) → WellFormed a → WellFormed b → SameLetters a b → (word : List ℕ) → Language (join a b) word ↔ Words (Language a) (Language b) word)
+    (same : (P Q P' Q' : List ℕ → Type 0) → ((w : List ℕ) → P w ↔ P' w) → ((w : List ℕ) → Q w ↔ Q' w) → (w : List ℕ) → Words P Q w ↔ Words P' Q' w)
     (first second old : List ℕ) where
+  abbrev all : List ℕ
+  all = lettersOf first second
+
+  -- the automata of the files, and over the letters of both
   abbrev a : Automaton
   a = automatonOf first
 
@@ -97,7 +106,7 @@ module _ (join : Automaton → Automaton → Automaton) (Words : (P Q : List ℕ
   b = automatonOf second
 
   abbrev x : Automaton
-  x = join a b
+  x = joinOf join first second
 
   abbrev cs : List (Type 0 × ℕ × ℕ)
   cs = joinConditions first second x (length old)
@@ -107,7 +116,7 @@ module _ (join : Automaton → Automaton → Automaton) (Words : (P Q : List ℕ
   unfolding joinRefusals
   tests-decide = (
     fault-decided first 1,
-    (fault-decided second 2, (letters-decided a b, (beyond-decided x, (less-decided (length old) (length (bytesOf x)) 25 0 (omega arith), tt)))),
+    (fault-decided second 2, (less-decided 64 (length all) 11 0 (omega arith), (beyond-decided x, (less-decided (length old) (length (bytesOf x)) 25 0 (omega arith), tt)))),
   )
 
   -- none holds where nothing is to be refused
@@ -116,23 +125,28 @@ module _ (join : Automaton → Automaton → Automaton) (Words : (P Q : List ℕ
     λ h.
         let u = at-least 0 (faultOf first) (h .0) in
         let v = at-least 0 (faultOf second) (h .1 .0) in
-        (record { first-valid = omega arith; second-valid = omega arith; same-letters = same-letters a b (h .1 .1 .0) }, h .1 .1 .1 .0, at-least (length old) (length (bytesOf x)) (h .1 .1 .1 .1 .0)),
-    λ p. (λ h. omega (arith, p .0 .first-valid), (λ h. omega (arith, p .0 .second-valid), (λ h. h (p .0 .same-letters), (p .1, (λ h. omega (arith, p .2), tt))))),
+        (record { first-valid = omega arith; second-valid = omega arith; few-letters = at-least 64 (length all) (h .1 .1 .0) }, h .1 .1 .1 .0, at-least (length old) (length (bytesOf x)) (h .1 .1 .1 .1 .0)),
+    λ p. (λ h. omega (arith, p .0 .first-valid), (λ h. omega (arith, p .0 .second-valid), (λ h. omega (arith, p .0 .few-letters), (p .1, (λ h. omega (arith, p .2), tt))))),
   )
 
   -- the joined file
-  file : (ValidPair first second × (¬ Beyond x) × (length (bytesOf x) ≤ length old)) → FileOf x (a .alphabet) (Words (Language a) (Language b)) (length (bytesOf x)) old (bytesOf x ++ drop (length (bytesOf x)) old)
+  file : (ValidPair first second × (¬ Beyond x) × (length (bytesOf x) ≤ length old)) → FileOf x all (Words (Language a) (Language b)) (length (bytesOf x)) old (bytesOf x ++ drop (length (bytesOf x)) old)
+  unfolding withLetters
   file p =
       let u = no-fault first (p .0 .first-valid) in
       let v = no-fault second (p .0 .second-valid) in
-      let f = valid-fits first (u .0) (u .1) in
-      let g = valid-fits second (v .0) (v .1) in
-      let l = p .0 .same-letters in
-      stands x (a .alphabet) (Words (Language a) (Language b)) old (lists a b) (accepts a b (f .well-formed) (g .well-formed) l) (fits a b f g l (not-beyond x (p .1)))
+      let over = apart-over (record { first = u .1; second = v .1; few = p .0 .few-letters }) .lettered in
+      let f = over .fits₁ in
+      let g = over .fits₂ in
+      let own₁ = relettered-language a (valid-fits first (u .0) (u .1) .well-formed) all (first-inside (a .alphabet) (b .alphabet)) in
+      let own₂ = relettered-language b (valid-fits second (v .0) (v .1) .well-formed) all (second-inside (a .alphabet) (b .alphabet)) in
+      stands x all (Words (Language a) (Language b)) old (lists (relettered all a) (relettered all b))
+      (λ word. iff-trans (accepts (relettered all a) (relettered all b) (f .well-formed) (g .well-formed) refl word) (same _ _ _ _ own₁ own₂ word))
+      (fits (relettered all a) (relettered all b) f g refl (not-beyond x (p .1)))
 
-  pub two-joined : let r = joinedOf join first second (length old) in JoinPromised join Words first second old (outputOf r (bytesOf (join (automatonOf first) (automatonOf second))) old) (told r)
+  pub two-joined : let r = joinedOf join first second (length old) in JoinPromised join Words first second old (outputOf r (bytesOf (joinOf join first second)) old) (told r)
   unfolding joinedOf
-  two-joined = kept cs (ValidPair first second) x (a .alphabet) (Words (Language a) (Language b)) old none file (joinedOf join first second (length old)) (refused-or-not Refused (Bytes (length (bytesOf x))) (joinRefusals first second x (length old)) cs tests-decide)
+  two-joined = kept cs (ValidPair first second) x all (Words (Language a) (Language b)) old none file (joinedOf join first second (length old)) (refused-or-not Refused (Bytes (length (bytesOf x))) (joinRefusals first second x (length old)) cs tests-decide)
 
 -- ---- one file
 module _ (file old : List ℕ) where

@@ -1,6 +1,6 @@
 -- Promises: what is promised of a call that joins files, told of the bytes lent and the bytes left (document 01, 'Joining books' and
--- both 'Refused' sections; which letter lists are the same, document 02, change 4). A word is a list of bytes of any length; that it is
--- accepted is document 003's (automata's specs/Words.antt).
+-- both 'Refused' sections; over which letters, document 02, change 6). A word is a list of bytes of any length; that it is accepted is
+-- document 003's (automata's specs/Words.antt), by the letters of the file itself.
 use mathlib.Core.Path.{_≡_}
 use mathlib.Core.Logic.{_↔_, _≢_}
 use mathlib.Core.List.{List, List·Memᴰ, [], _∷_}
@@ -9,11 +9,13 @@ use lib.ListN.{drop, length, take}
 use Rattle.automata.specs.Automaton.{Arc, Automaton, states}
 use Rattle.automata.specs.Joins.{closure}
 use Rattle.automata.specs.Languages.{Star}
-use Rattle.automata.specs.Words.{Language, SameLetters}
+use Rattle.automata.specs.Words.{Language}
 use Rattle.format.specs.Decoding.{automatonOf}
 use Rattle.format.specs.Encoding.{bytesOf}
 use Rattle.format.specs.Refusals.{FirstHolds, faultOf}
 use Rattle.file_writing.specs.Answers.{Told}
+use Rattle.file_pair.specs.Pair.{lettersOf}
+use Rattle.join_parts.specs.Joining.{joinOf}
 
 -- ---- the joined automaton x, the bytes that it is to list as its letters, the words that it is to accept, and the output before the call
 -- and after it
@@ -40,7 +42,7 @@ abbrev pub joinConditions : (first second : List ℕ) → Automaton → (space :
 joinConditions first second x space =
     (0 < faultOf first, faultOf first, 1)
     ∷ (0 < faultOf second, faultOf second, 2)
-    ∷ (¬ SameLetters (automatonOf first) (automatonOf second), 10, 0)
+    ∷ (64 < length (lettersOf first second), 11, 0)
     ∷ (Beyond x, 11, 0)
     ∷ (space < length (bytesOf x), 25, 0)
     ∷ []
@@ -53,7 +55,7 @@ closeConditions file x space =
     ∷ (space < length (bytesOf x), 25, 0)
     ∷ []
 
--- ---- what is promised of a call with these conditions; `Ready`: no file is at fault, and 10 does not hold
+-- ---- what is promised of a call with these conditions; `Ready`: no file is at fault, and the letters are not too many
 -- the joined automaton is x, it is to list the bytes `listed` and to accept the words `Words`, the output was `old` and is `out`
 pub record Promised (conditions : List (Type 0 × ℕ × ℕ)) (Ready : Type 0) (x : Automaton) (listed : List ℕ) (Words : List ℕ → Type 0) (old out : List ℕ) (t : Told) : Type 0 where
   -- where nothing is refused, the file is there, and its length is told
@@ -67,18 +69,17 @@ pub record Promised (conditions : List (Type 0 × ℕ × ℕ)) (Ready : Type 0) 
   -- each refusal has its number and its automaton at fault just where its condition is the first that holds; where none holds, both are 0
   pub refuses : (n b : ℕ) → ((t .number ≡ n) × (t .at-fault ≡ b)) ↔ FirstHolds conditions n b
 
--- both files are valid, and list the same letters
+-- both files are valid, and have at most 64 letters together
 pub record ValidPair (first second : List ℕ) : Type 0 where
   pub first-valid : faultOf first ≡ 0
   pub second-valid : faultOf second ≡ 0
-  pub same-letters : SameLetters (automatonOf first) (automatonOf second)
+  pub few-letters : length (lettersOf first second) ≤ 64
 
--- of a call that joins two files by `join`, which is to list the first file's bytes (document 02, change 4) and to accept the words `Words`
--- of their languages
+-- of a call that joins two files by `join`, which is to list the letters of both and to accept the words `Words` of their languages
 abbrev pub JoinPromised : (join : Automaton → Automaton → Automaton) (Words : (P Q : List ℕ → Type 0) → List ℕ → Type 0) (first second old out : List ℕ) → Told → Type 0
 JoinPromised join Words first second old out t =
-    let x = join (automatonOf first) (automatonOf second) in
-    Promised (joinConditions first second x (length old)) (ValidPair first second) x (automatonOf first .alphabet) (Words (Language (automatonOf first)) (Language (automatonOf second))) old out t
+    let x = joinOf join first second in
+    Promised (joinConditions first second x (length old)) (ValidPair first second) x (lettersOf first second) (Words (Language (automatonOf first)) (Language (automatonOf second))) old out t
 
 -- of the call that closes one file: the result lists its bytes, and accepts the finite sequences of its words
 abbrev pub ClosurePromised : (file old out : List ℕ) → Told → Type 0

@@ -16,6 +16,7 @@ use file_writing::Written;
 use file_writing::front::write_front;
 use file_writing::parts::write_byte;
 use format::Counts;
+use format::fields::flags_at;
 use join_parts::answer::arcs_size;
 use join_parts::answer::decide;
 use join_parts::finals::count_finals;
@@ -46,14 +47,14 @@ fn return_size(n: usize) -> usize
     if n < 2 { 6 } else { 2 + 2 * n }
 }
 
-// The arcs of the closure: the added empty move, those of the file, then a return from each final state.
+// The arcs of the closure: the added empty move, those of the file with their own letters, then a return from each final state.
 // Cost: the states, and the bytes written.
 fn write_closure_arcs(out: &mut [u8], at: usize, a: Counts, file: &[u8]) -> usize
     requires { ⌜ (readingOf (now file) ≡ Valid a) × (1 + a .states ≤ 256) × (at + length (arcsBytes (closure (automatonOf (now file)) .arcs)) ≤ length (now out)) ⌝ }
     ensures { λ r. ⌜ Appended at (arcsBytes (closure (automatonOf (now (file .entry))) .arcs)) (now (out .entry)) (now (out .exit)) r ⌝ }
 {
     let arcs = write_entry(out, at, 1);
-    let returns = write_moved_arcs(out, arcs, a, file, 1, 0);
+    let returns = write_moved_arcs(out, arcs, a, file, &file[0..0], 1, 0);
     write_final_arcs(out, returns, a, file, 1, 1, a.registers)
 }
 
@@ -62,7 +63,8 @@ fn write_closure(out: &mut [u8], c: Counts, a: Counts, file: &[u8]) -> usize
     requires { ⌜ (readingOf (now file) ≡ Valid a) × (sizes (closure (automatonOf (now file))) ≡ c) × Fits (closure (automatonOf (now file))) × (length (bytesOf (closure (automatonOf (now file)))) ≤ length (now out)) ⌝ }
     ensures { λ r. ⌜ Appended 0 (bytesOf (closure (automatonOf (now (file .entry))))) (now (out .entry)) (now (out .exit)) r ⌝ }
 {
-    let flags = write_front(out, c, a, file);
+    let end = flags_at(a);
+    let flags = write_front(out, c, &file[12..end]);
     let old = write_byte(out, flags, 1);
     let arcs = write_flags(out, old, a, file);
     write_closure_arcs(out, arcs, a, file)

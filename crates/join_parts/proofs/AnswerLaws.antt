@@ -1,5 +1,6 @@
 -- AnswerLaws: what the answer for a joined automaton says: 11, 25 or its length, each exactly where it holds.
 use mathlib.Core.Path.{_≡_, refl, ap, ap₂, sym}
+use mathlib.Core.Logic.{_⊎_}
 use mathlib.Core.Bool.{Bool, false, true}
 use mathlib.Core.List.{List}
 use Prim.Native.Nat.{_≤_, ℕ}
@@ -19,10 +20,10 @@ use Rattle.format.specs.Decoding.{automatonOf}
 use Rattle.format.specs.Encoding.{bytesOf, sizes}
 use Rattle.file_laws.proofs.Laws.{has-fault}
 use Rattle.file_writing.specs.declared.Written.the-variants.{Bytes, Refused}
-use Rattle.file_pair.specs.declared.Files.the-variants.{Both, Fault}
+use Rattle.file_pair.specs.declared.Files.the-variants.{Alike, Apart, Fault}
 use Rattle.file_pair.specs.Pair.{filesOf}
 use Rattle.file_pair.proofs.Laws.{files-passed, files-refused}
-use Rattle.join_parts.specs.Joining.{automatonRefusals, beyond, closedOf, decided, joinedOf, manyCounts, writtenOf}
+use Rattle.join_parts.specs.Joining.{automatonRefusals, beyond, closedOf, decided, joinOf, joinedOf, manyCounts, writtenOf}
 use Rattle.join_parts.proofs.WithinLimits.{FewOps, beyond-counts}
 
 pub record Whole (x : Automaton) (space n : ℕ) : Type 0 where
@@ -49,13 +50,13 @@ module _ (x : Automaton) (space : ℕ) where
 -- ---- a call's answer, by what the files are: their refusal, or the answer for the joined automaton
 module _ (join : Automaton → Automaton → Automaton) (s t : List ℕ) (space : ℕ) where
   abbrev x : Automaton
-  x = join (automatonOf s) (automatonOf t)
+  x = joinOf join s t
 
   pub joined-fault : {n i : ℕ} → filesOf s t ≡ Fault n i → joinedOf join s t space ≡ Refused n i
   unfolding joinedOf
   joined-fault e = files-refused s t Refused (automatonRefusals x space) (Bytes (length (bytesOf x))) e
 
-  pub joined-both : {a b : Counts} → filesOf s t ≡ Both a b → joinedOf join s t space ≡ writtenOf x space
+  pub joined-both : {a b : Counts} → (filesOf s t ≡ Alike a b) ⊎ (filesOf s t ≡ Apart a b) → joinedOf join s t space ≡ writtenOf x space
   unfolding joinedOf writtenOf
   joined-both e = files-passed s t Refused (automatonRefusals x space) (Bytes (length (bytesOf x))) e
 

@@ -13,3 +13,5 @@ pub use Rattle.join_parts.proofs.ArcWalk.{ArcHere, Walk, arc-at, arcs-n
 pub use Rattle.join_parts.proofs.ArcLengths.{arcs-moved-length, entry-length, returning-length}
 -- the final flags of a file and the numbers of its final states, as the loops meet them
 pub use Rattle.join_parts.proofs.FinalFlags.{flags-end, returning, valid-finals, valid-flags, valid-lengths}
+-- arcs with the new numbers of their letters: their bytes, and how many these are; and automata over the same letters
+pub use Rattle.join_parts.proofs.NewLetters.{letter-byte, over-length, over-same, relettered-bytes, relettered-length, relettered-size}

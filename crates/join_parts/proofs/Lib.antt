@@ -3,6 +3,7 @@ pub mod WithinLimits
 pub mod AnswerLaws
 pub mod MovedFits
 pub mod ArcWalk
+pub mod NewLetters
 pub mod ArcLengths
 pub mod FinalFlags
 pub mod Laws

@@ -1,4 +1,5 @@
--- Joining: what joining files answers (document 01, 'Joining books' and the order of refusals).
+-- Joining: what joining files answers (document 01, 'Joining books' and the order of refusals; document 02, change 6: two files are joined
+-- over the letters of both).
 -- The joined automata themselves are automata's specs/Joins.antt, and their bytes format's specs/Encoding.antt.
 use mathlib.Core.Bool.{Bool, _||_}
 use mathlib.Core.List.{List, [], _∷_, _++_}
@@ -8,6 +9,7 @@ use lib.ListN.{length}
 use Rattle.automata.specs.Lists.{any}
 use Rattle.automata.specs.Automaton.{Arc, Automaton}
 use Rattle.automata.specs.Joins.{closure}
+use Rattle.relettering.specs.Relettering.{overBoth}
 use Rattle.file_fields.specs.declared.Counts.{Counts}
 use Rattle.format.specs.Refusals.{faultOf, unlessRefused}
 use Rattle.format.specs.Decoding.{automatonOf}
@@ -61,11 +63,14 @@ unfoldable pub writtenOf : Automaton → ℕ → Written
 unfolding decided
 writtenOf x space = decided (beyond x) (length (bytesOf x)) space
 
--- of a call that joins two files, as automata by `join`
-unfoldable pub joinedOf : (Automaton → Automaton → Automaton) → List ℕ → List ℕ → ℕ → Written
+-- the automata of two files joined by `join`, over the letters of both
+abbrev pub joinOf : (Automaton → Automaton → Automaton) → (first second : List ℕ) → Automaton
+joinOf join first second = overBoth join (automatonOf first) (automatonOf second)
+
+-- of a call that joins two files so
+unfoldable pub joinedOf : (Automaton → Automaton → Automaton) → (first second : List ℕ) (space : ℕ) → Written
 unfolding joinRefusals unlessRefused
-joinedOf join first second space =
-    unlessRefused Refused (joinRefusals first second (join (automatonOf first) (automatonOf second)) space) (Bytes (length (bytesOf (join (automatonOf first) (automatonOf second)))))
+joinedOf join first second space = unlessRefused Refused (joinRefusals first second (joinOf join first second) space) (Bytes (length (bytesOf (joinOf join first second))))
 
 -- of the call that closes a file
 unfoldable pub closedOf : List ℕ → ℕ → Written

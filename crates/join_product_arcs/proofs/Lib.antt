@@ -1,3 +1,4 @@
 pub mod BesideArcs
+pub mod JointLetters
 pub mod PairNumber
 pub mod Laws

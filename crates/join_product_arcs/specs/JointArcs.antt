@@ -6,7 +6,7 @@ use lib.ListN.{length, drop}
 use Rattle.automata.specs.Automaton.{Arc}
 use Rattle.automata.specs.Joins.{arcFrom, movedOp}
 use Rattle.file_fields.specs.Parts.{arcSize}
-use Rattle.format.specs.Decoding.{arcOf}
+use Rattle.format.specs.Decoding.{arcOf, letterOf}
 use Rattle.join_product_arcs.specs.declared.beside.Beside.{Beside}
 
 -- a joint arc can be written: the arcs stand whole at their places, its states and the number of its operations are bytes
@@ -17,6 +17,10 @@ pub record Writable (n k : ℕ) (s : List ℕ) (from : ℕ) (t : List ℕ) (othe
   pub target : arcOf (drop from s) .target * n + arcOf (drop other t) .target < 256
   pub ops : length (arcOf (drop from s) .ops) + length (arcOf (drop other t) .ops) < 256
   pub shift : k ≤ 8
+
+-- an arc with the letter of this byte
+abbrev pub lettered : ℕ → Arc → Arc
+lettered u x = arcFrom (x .source) (letterOf u) (x .target) (x .ops)
 
 -- an empty move beside state i of the other automaton
 abbrev pub besideArc : Beside → Arc → ℕ → Arc

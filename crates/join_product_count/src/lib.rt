@@ -1,16 +1,17 @@
 // join_product_count: the arcs of an intersection, group by group (document 01, 'Joining books'): how many they are, how many bytes they take,
 // and whether one has more than 8 operations, before any is written.
 ghost use mathlib.Core.Path.{_≡_};
-ghost use mathlib.Core.List.{flatMap};
+ghost use mathlib.Core.List.{flatMap, map};
 ghost use Prim.Native.Nat.{ℕ, _+_, _≤_};
 ghost use lib.ListN.{length, drop};
 ghost use Rattle.automata.specs.Automaton.{Arc};
-ghost use Rattle.automata.specs.Joins.{intersection};
+ghost use Rattle.relettering.specs.Relettering.{reletteredArc};
 ghost use Rattle.file_fields.specs.declared.Reading.the-variants.{Valid};
 ghost use Rattle.file_fields.specs.Parts.{arcSize};
 ghost use Rattle.format.specs.Reading.{readingOf};
 ghost use Rattle.format.specs.Decoding.{arcOf, automatonOf};
-ghost use Rattle.join_product_count.specs.ProductArcs.{jointWith, emptyWith, Tallied};
+ghost use Rattle.join_product_count.specs.ProductArcs.{Findable, Matched, SmallLetter, Tallied, emptyWith, jointWith, ownLetter, productArcs};
+use file_letters::numbering::new_letter;
 use format::Counts;
 use format::fields::arc_size;
 use format::fields::byte;
@@ -23,10 +24,28 @@ pub struct Tally {
     pub many: bool,
 }
 
-// The arc at a place of the first file with each arc of the second of its letter. Cost: the arcs of the second.
-fn count_joint(first: &[u8], from: usize, b: Counts, second: &[u8]) -> Tally
-    requires { ⌜ (from + arcSize (drop from (now first)) ≤ length (now first)) × (readingOf (now second) ≡ Valid b) ⌝ }
-    ensures { λ r. ⌜ ((n k : ℕ) → Tallied r (jointWith n k (automatonOf (now (second .entry)) .arcs) (arcOf (drop from (now (first .entry)))))) × (r .arcs ≤ 2048) × (r .size ≤ 2097152) ⌝ }
+// A file's own number of the letter with the new number n. Refuses nothing. Cost: its letters; where no number changes, constant.
+pub fn own_letter(new: &[u8], n: usize) -> usize
+    ensures { λ r. ⌜ r ≡ ownLetter (now (new .entry)) n ⌝ }
+{
+    if new.len() == 0 {
+        return n;
+    }
+    let mut i: usize = 0;
+    while i < new.len() {
+        if n == byte(new, i) {
+            return i;
+        }
+        i += 1;
+    }
+    i
+}
+
+// The arc at a place of the first file with each arc of the second of its letter, which is looked up once by its new number.
+// Cost: the letters and the arcs of the second.
+fn count_joint(first: &[u8], one: &[u8], from: usize, b: Counts, second: &[u8], two: &[u8]) -> Tally
+    requires { ⌜ (from + arcSize (drop from (now first)) ≤ length (now first)) × SmallLetter (now one) (arcOf (drop from (now first))) × Findable b (now second) (now two) ⌝ }
+    ensures { λ r. ⌜ ((n k : ℕ) → Tallied r (jointWith n k (map (reletteredArc (now (two .entry))) (automatonOf (now (second .entry)) .arcs)) (reletteredArc (now (one .entry)) (arcOf (drop from (now (first .entry))))))) × (r .arcs ≤ 2048) × (r .size ≤ 2097152) ⌝ }
 {
     let letter = byte(first, from + 1);
     let p = byte(first, from + 3);
@@ -36,11 +55,12 @@ fn count_joint(first: &[u8], from: usize, b: Counts, second: &[u8]) -> Tally
     if letter == 255 {
         return Tally { arcs, size, many };
     }
+    let own = own_letter(two, new_letter(one, letter));
     let mut at = first_arc(b);
     let mut i: usize = 0;
     while i < b.arcs {
         let ops = p + byte(second, at + 3);
-        if letter == byte(second, at + 1) {
+        if own == byte(second, at + 1) {
             arcs += 1;
             size += 4 + 2 * ops;
             many = many | (8 < ops);
@@ -51,10 +71,18 @@ fn count_joint(first: &[u8], from: usize, b: Counts, second: &[u8]) -> Tally
     Tally { arcs, size, many }
 }
 
-// Each lettered arc of the first with each arc of the second of its letter. Cost: the pairs of arcs.
-fn count_lettered(a: Counts, first: &[u8], b: Counts, second: &[u8]) -> Tally
-    requires { ⌜ (readingOf (now first) ≡ Valid a) × (readingOf (now second) ≡ Valid b) ⌝ }
-    ensures { λ r. ⌜ ((n k : ℕ) → Tallied r (flatMap (jointWith n k (automatonOf (now (second .entry)) .arcs)) (automatonOf (now (first .entry)) .arcs))) × (r .arcs ≤ 4194304) × (r .size ≤ 4294967296) ⌝ }
+// Each lettered arc of the first with each arc of the second of its letter. Cost: for each arc of the first, the letters and the
+// arcs of the second.
+fn count_lettered(
+    a: Counts,
+    first: &[u8],
+    one: &[u8],
+    b: Counts,
+    second: &[u8],
+    two: &[u8],
+) -> Tally
+    requires { ⌜ Matched a b (now first) (now second) (now one) (now two) ⌝ }
+    ensures { λ r. ⌜ ((n k : ℕ) → Tallied r (flatMap (jointWith n k (map (reletteredArc (now (two .entry))) (automatonOf (now (second .entry)) .arcs))) (map (reletteredArc (now (one .entry))) (automatonOf (now (first .entry)) .arcs)))) × (r .arcs ≤ 4194304) × (r .size ≤ 4294967296) ⌝ }
 {
     let mut arcs: usize = 0;
     let mut size: usize = 0;
@@ -62,7 +90,7 @@ fn count_lettered(a: Counts, first: &[u8], b: Counts, second: &[u8]) -> Tally
     let mut from = first_arc(a);
     let mut i: usize = 0;
     while i < a.arcs {
-        let t = count_joint(first, from, b, second);
+        let t = count_joint(first, one, from, b, second, two);
         arcs += t.arcs;
         size += t.size;
         many = many | t.many;
@@ -97,12 +125,20 @@ fn count_empty(c: Counts, file: &[u8], n: usize) -> Tally
     }
 }
 
-// All arcs of the intersection. Cost: the pairs of arcs.
-pub fn count_arcs(a: Counts, first: &[u8], b: Counts, second: &[u8]) -> Tally
-    requires { ⌜ (readingOf (now first) ≡ Valid a) × (readingOf (now second) ≡ Valid b) ⌝ }
-    ensures { λ r. ⌜ Tallied r (intersection (automatonOf (now (first .entry))) (automatonOf (now (second .entry))) .arcs) × (r .arcs ≤ 5242880) × (r .size ≤ 4836032512) ⌝ }
+// All arcs of the intersection, by the new numbers of the letters. Cost: for each arc of the first, the letters and the arcs of the
+// second.
+pub fn count_arcs(
+    a: Counts,
+    first: &[u8],
+    one: &[u8],
+    b: Counts,
+    second: &[u8],
+    two: &[u8],
+) -> Tally
+    requires { ⌜ Matched a b (now first) (now second) (now one) (now two) ⌝ }
+    ensures { λ r. ⌜ Tallied r (productArcs (now (one .entry)) (now (two .entry)) (now (first .entry)) (now (second .entry))) × (r .arcs ≤ 5242880) × (r .size ≤ 4836032512) ⌝ }
 {
-    let joint = count_lettered(a, first, b, second);
+    let joint = count_lettered(a, first, one, b, second, two);
     let left = count_empty(a, first, b.states);
     let right = count_empty(b, second, a.states);
     Tally {

@@ -6,13 +6,14 @@ use Prim.Native.Nat.{ℕ, _≤_}
 use native.Mathlib.Omega.{arith}
 use lib.ListN.{drop, getD, length, length-map}
 use lib.Seq.{take-all, take-at}
-use Rattle.automata.specs.Pairs.{Verdict, different, same, verdict}
+use Rattle.automata.specs.Pairs.{Verdict, different, same}
+use Rattle.relettering.specs.Relettering.{lettersOfBoth}
 use Rattle.format.specs.Decoding.{automatonOf}
 use Rattle.format.specs.Refusals.{unlessRefused}
 use Rattle.line_text.specs.Digits.{decimalOf, hexOf}
 use Rattle.line_text.specs.Line.{ascii}
 use Rattle.line_text.specs.Writing.{Writes}
-use Rattle.compare_promise.specs.Comparing.{answerOf, bufferOf, bytesIn, comparisonOf, refusals, shownWord}
+use Rattle.compare_promise.specs.Comparing.{answerOf, bufferOf, bytesIn, comparisonOf, refusals, shownWord, verdictOf}
 use Rattle.compare_promise.specs.declared.Comparison.{Comparison}
 use Rattle.compare_promise.specs.declared.Comparison.the-variants.{Different, Refused, Same}
 use Rattle.line_comparison.specs.ComparisonLines.{comparisonLine, lineOf}
@@ -43,7 +44,7 @@ module _ (alphabet old : List ℕ) where
 
 alike : (first second old : List ℕ) (words buffer : ℕ) → Alike (shownWord first second) old (comparisonOf first second words buffer)
 unfolding comparisonOf shownWord
-alike first second old words buffer = alike-after (automatonOf first .alphabet) old (refusals 256 2048 512 first second words buffer) (verdict (automatonOf first) (automatonOf second) 256 512)
+alike first second old words buffer = alike-after (lettersOfBoth (automatonOf first) (automatonOf second)) old (refusals 256 2048 512 first second words buffer) (verdictOf first second)
 
 -- ---- from the contract of comparing to that of the line
 module _ (first second : List ℕ) (words : ℕ) (old : List ℕ) {new : List ℕ} {r : Comparison} (answer : r ≡ comparisonOf first second words (length old)) (buffer : new ≡ bufferOf r (shownWord first second) old)

@@ -13,6 +13,7 @@ use lib.ListN.{length, length-append, length-take, take}
 use Rattle.automata.specs.Automaton.{Automaton}
 use Rattle.automata.specs.Pairs.{Pair, differ, firstPassing, judged, pairs, verdict}
 use Rattle.automata.specs.Search.{Entry}
+use Rattle.relettering.specs.Relettering.{lettersOfBoth, relettered}
 use Rattle.format.specs.Decoding.{automatonOf}
 use Rattle.file_fields.specs.Parts.{numberOf}
 use Rattle.format.specs.Reading.{readingOf}
@@ -23,7 +24,7 @@ use Rattle.file_laws.proofs.Laws.{number-between, number-range}
 use Rattle.line_text.specs.Digits.{decimalOf, hexDigits, hexOf}
 use Rattle.line_text.specs.Line.{ascii}
 use Rattle.line_text.proofs.Laws.{decimal-more, decimal-one}
-use Rattle.compare_promise.specs.Comparing.{answerOf, bufferOf, comparisonOf, countRefusals, limitRefusals, refusals, tableRefusals}
+use Rattle.compare_promise.specs.Comparing.{answerOf, bufferOf, comparisonOf, countRefusals, limitRefusals, refusals, tableRefusals, verdictOf}
 use Rattle.compare_promise.specs.declared.Comparison.{Comparison}
 use Rattle.compare_promise.specs.declared.Comparison.the-variants.{Different, Refused, Same}
 use Rattle.line_comparison.specs.ComparisonLines.{comparisonLine}
@@ -87,10 +88,10 @@ fault-small file = go (readingOf file) refl
 
 module _ (first second : List ℕ) (words buffer : ℕ) where
   abbrev x : Automaton
-  x = automatonOf first
+  x = relettered (lettersOfBoth (automatonOf first) (automatonOf second)) (automatonOf first)
 
   abbrev y : Automaton
-  y = automatonOf second
+  y = relettered (lettersOfBoth (automatonOf first) (automatonOf second)) (automatonOf second)
 
   small-compared : length (pairs x y 256 512) ≤ 512 → Small (answerOf (verdict x y 256 512))
   unfolding verdict
@@ -123,7 +124,7 @@ module _ (first second : List ℕ) (words buffer : ℕ) where
   few h = ltb-false 512 (length (pairs x y 256 512)) (h .1 .1 .1 .1 .1 .1 .1 .1 .0)
 
   small : Small (comparisonOf first second words buffer)
-  unfolding comparisonOf
+  unfolding comparisonOf verdictOf
   small = small-after (refusals 256 2048 512 first second words buffer) (answerOf (verdict x y 256 512)) all-small (λ h. small-compared (few h))
 
 -- ---- the line

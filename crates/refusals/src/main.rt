@@ -5,7 +5,8 @@ use book_console::words::say_number;
 
 // Does the number mean a refusal? Cost: constant.
 fn is_refusal(number: u8) -> bool {
-    (number >= 1 && number <= 11)
+    (number >= 1 && number <= 9)
+        || number == 11
         || (number >= 21 && number <= 25)
         || (number >= 31 && number <= 34)
 }

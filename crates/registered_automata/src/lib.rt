@@ -9,7 +9,7 @@ ghost use Rattle.format.specs.Encoding.{bytesOf};
 ghost use Rattle.format.specs.Reading.{readingOf};
 ghost use Rattle.table.specs.Membership.{membershipOf};
 ghost use Rattle.file_writing.specs.Answers.{outputOf};
-ghost use Rattle.join_parts.specs.Joining.{joinedOf, closedOf};
+ghost use Rattle.join_parts.specs.Joining.{closedOf, joinOf, joinedOf};
 ghost use Rattle.unfold.specs.Unfolding.{unfoldingOf};
 ghost use Rattle.compare_promise.specs.Comparing.{bufferOf, comparisonOf, shownWord};
 ghost use Rattle.count_promise.specs.WordCounts.{wordCountOf};
@@ -58,7 +58,7 @@ pub extern "C" fn ra_unfold(file: &[u8], work: &mut [u64], out: &mut [u8]) -> Wr
 #[no_mangle]
 pub extern "C" fn ra_union(first: &[u8], second: &[u8], out: &mut [u8]) -> Written
     ensures answer { λ r. ⌜ r ≡ writtenFields (joinedOf union (now (first .entry)) (now (second .entry)) (length (now (out .entry)))) ⌝ }
-    ensures output { λ _. ⌜ now (out .exit) ≡ outputOf (joinedOf union (now (first .entry)) (now (second .entry)) (length (now (out .entry)))) (bytesOf (union (automatonOf (now (first .entry))) (automatonOf (now (second .entry))))) (now (out .entry)) ⌝ }
+    ensures output { λ _. ⌜ now (out .exit) ≡ outputOf (joinedOf union (now (first .entry)) (now (second .entry)) (length (now (out .entry)))) (bytesOf (joinOf union (now (first .entry)) (now (second .entry)))) (now (out .entry)) ⌝ }
 {
     as_written(join::union(first, second, out))
 }
@@ -67,7 +67,7 @@ pub extern "C" fn ra_union(first: &[u8], second: &[u8], out: &mut [u8]) -> Writt
 #[no_mangle]
 pub extern "C" fn ra_concatenate(first: &[u8], second: &[u8], out: &mut [u8]) -> Written
     ensures answer { λ r. ⌜ r ≡ writtenFields (joinedOf concatenation (now (first .entry)) (now (second .entry)) (length (now (out .entry)))) ⌝ }
-    ensures output { λ _. ⌜ now (out .exit) ≡ outputOf (joinedOf concatenation (now (first .entry)) (now (second .entry)) (length (now (out .entry)))) (bytesOf (concatenation (automatonOf (now (first .entry))) (automatonOf (now (second .entry))))) (now (out .entry)) ⌝ }
+    ensures output { λ _. ⌜ now (out .exit) ≡ outputOf (joinedOf concatenation (now (first .entry)) (now (second .entry)) (length (now (out .entry)))) (bytesOf (joinOf concatenation (now (first .entry)) (now (second .entry)))) (now (out .entry)) ⌝ }
 {
     as_written(join::concatenate(first, second, out))
 }
@@ -76,7 +76,7 @@ pub extern "C" fn ra_concatenate(first: &[u8], second: &[u8], out: &mut [u8]) ->
 #[no_mangle]
 pub extern "C" fn ra_intersect(first: &[u8], second: &[u8], out: &mut [u8]) -> Written
     ensures answer { λ r. ⌜ r ≡ writtenFields (joinedOf intersection (now (first .entry)) (now (second .entry)) (length (now (out .entry)))) ⌝ }
-    ensures output { λ _. ⌜ now (out .exit) ≡ outputOf (joinedOf intersection (now (first .entry)) (now (second .entry)) (length (now (out .entry)))) (bytesOf (intersection (automatonOf (now (first .entry))) (automatonOf (now (second .entry))))) (now (out .entry)) ⌝ }
+    ensures output { λ _. ⌜ now (out .exit) ≡ outputOf (joinedOf intersection (now (first .entry)) (now (second .entry)) (length (now (out .entry)))) (bytesOf (joinOf intersection (now (first .entry)) (now (second .entry)))) (now (out .entry)) ⌝ }
 {
     as_written(join::intersect(first, second, out))
 }

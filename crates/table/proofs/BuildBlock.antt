@@ -20,6 +20,7 @@ use Rattle.automata.specs.Unfolding.{configurations, plainAll, plainArcs}
 use Rattle.automata.proofs.Laws.{at-map, at-mem, first-configuration, getElem?-lt, getElem?-some, iff-trans, mem-at, within}
 use Rattle.table_explore.specs.Explores.{Explores, Walked, exploredOf, startOf}
 use Rattle.word_layout.specs.Layout.{arcsAt, configs, mapEnd, startsAt}
+use Rattle.word_layout.specs.declared.Block.{Block}
 use Rattle.table_configurations.specs.Tables.{fieldsOf, listed}
 use Rattle.table_configurations.specs.declared.Explored.the-variants.{Tables, TooMany}
 use Rattle.format.specs.Encoding.{letterByte}
@@ -28,7 +29,7 @@ use Rattle.word_fields.specs.Frame.{Kept}
 use Rattle.word_fields.proofs.Laws.{field-same, part-same}
 use Rattle.word_rows.specs.Rows.{Link, Closure, here, next, related}
 use Rattle.table_sets.proofs.Laws.{held-each}
-use Rattle.table_sets.specs.Stepping.{Among, endAt, startAt}
+use Rattle.table_sets.specs.Stepping.{Among, Tells, endAt, startAt}
 use Rattle.table.specs.Built.{Built, Stored}
 use Rattle.table.proofs.PlainPlaces.{before-le, before-rises, source-at}
 
@@ -100,10 +101,10 @@ module _ (x : Automaton) (L : ℕ) (fits : length (configurations x L) ≤ L) {w
   unfolding plainArcs startOf
   placed h s n {a} l e = rw (start-is h s l, end-is h s l) (iff-trans (source-at x (configurations x L) 0 (configurations x L) s n e) (λ q. omega arith, λ q. omega arith))
 
-  covers : letters x ≤ 255 → plain ≤ 2048 → (s l j : ℕ) → s < count → l < letters x
+  covers : plain ≤ 2048 → (s l j : ℕ) → s < count → l < 255
       → Among w' base (startAt w' base s) (endAt w' base count plain s) l j ↔ ((t : ℕ) × Moves arcs s (some l) t × Run (Moves arcs) t [] j)
   unfolding startOf plainArcs
-  covers short h s l j hs hl = (
+  covers h s l j hs hl = (
     λ a. let top : a .at < length arcs = omega (arith, a .high, end-is h s hs, before-le x (configurations x L) 0 (configurations x L) (suc s)) in
         let f = getElem?-some arcs (a .at) top in
         let b = f .0 in
@@ -125,19 +126,15 @@ module _ (x : Automaton) (L : ℕ) (fits : length (configurations x L) ≤ L) {w
   )
 
   -- THE LAW of building.
-  pub built : letters x ≤ 255 → Built x L w' (record { base = base; count = count; plain = plain })
+  pub told : Tells 255 (plainArcs x L) w' (record { base = base; count = count; plain = plain })
   unfolding startOf plainArcs
-  built short = record {
-    many = many;
-    ended = rw many fits;
-    tells = record {
-      some = rw many (getElem?-lt (configurations x L) 0 (first-configuration x L fits));
-      few = few;
-      within = inside;
-      rows = rows-run;
-      held = λ h. held-each inside (covers short h);
-      listed = λ h. record { few = few; less = h; zero = λ l. start-is h 0 l; each = λ c l. omega (arith, start-is h c l, before-le x (configurations x L) 0 (configurations x L) c); rises = λ c l. omega (arith, start-is h c l, end-is h c l, before-rises x (configurations x L) 0 (configurations x L) c) };
-    };
+  told = record {
+    some = rw many (getElem?-lt (configurations x L) 0 (first-configuration x L fits));
+    few = few;
+    within = inside;
+    rows = rows-run;
+    held = λ h. held-each inside (covers h);
+    listed = λ h. record { few = few; less = h; zero = λ l. start-is h 0 l; each = λ c l. omega (arith, start-is h c l, before-le x (configurations x L) 0 (configurations x L) c); rises = λ c l. omega (arith, start-is h c l, end-is h c l, before-rises x (configurations x L) 0 (configurations x L) c) };
   }
 
 -- ---- from the answer of exploring
@@ -163,12 +160,30 @@ explored-many x L e = go (decLt L n)
     go (yes h) = h
     go (no h) = absurd (let f : TooMany ≡ Tables n (length (plainArcs x L)) = e ∙ rw (le-ltb L n (omega arith)) in let z : _≡_ {A = ℕ} 0 1 = cc in omega arith)
 
--- What exploring leaves is built once the rows are closed.
-pub explored-built : (x : Automaton) (L : ℕ) {w w' : List ℕ} {base count plain : ℕ} → Explores x L w base (Tables count plain) → count ≤ 256 → mapEnd ≤ base → Kept base (base + 4 * count) w w'
-    → ((i j : ℕ) → i < count → T (related w' base i j) ↔ Closure (Link count (related w base)) i j) → letters x ≤ 255 → Built x L w' (record { base = base; count = count; plain = plain })
-explored-built x L {count = count} {plain} found few above kept closed short =
-    let a = explored-few x L count plain (found .answer) in
-    built x L (a .0) (a .1) (a .2) few above (found .block) kept closed short
+-- fewer letters are told as well
+tells-fewer : {n : ℕ} {arcs : List PlainArc} {w : List ℕ} {block : Block} (k : ℕ) → k ≤ n → Tells n arcs w block → Tells k arcs w block
+tells-fewer k h t = record {
+  some = t .some;
+  few = t .few;
+  within = t .within;
+  rows = t .rows;
+  listed = t .listed;
+  held = λ m. let f = t .held m in record { within = f .within; sound = λ s l j g b. f .sound s l j g (omega arith); full = λ s l j g b. f .full s l j g (omega arith) };
+}
+
+-- What exploring leaves, once the rows are closed, tells the plain arcs by every byte but that of the empty moves, and is built.
+module _ (x : Automaton) (L : ℕ) {w w' : List ℕ} {base count plain : ℕ} (found : Explores x L w base (Tables count plain)) (few : count ≤ 256) (above : mapEnd ≤ base) (kept : Kept base (base + 4 * count) w w')
+    (closed : (i j : ℕ) → i < count → T (related w' base i j) ↔ Closure (Link count (related w base)) i j) where
+  abbrev block : Block
+  block = record { base = base; count = count; plain = plain }
+
+  pub explored-told : Tells 255 (plainArcs x L) w' block
+  explored-told = let a = explored-few x L count plain (found .answer) in told x L (a .0) (a .1) (a .2) few above (found .block) kept closed
+
+  pub explored-built : letters x ≤ 255 → Built x L w' block
+  explored-built short =
+      let a = explored-few x L count plain (found .answer) in
+      record { many = a .1; ended = rw (a .1) (a .0); tells = tells-fewer (letters x) short explored-told }
 
 -- The configurations stand where they were, and where exploring left them.
 pub stored-kept : (x : Automaton) (L : ℕ) (w w' : List ℕ) (count : ℕ) → length w' ≡ length w → ((i : ℕ) → i < count → getD w' (configs + i) 0 ≡ getD w (configs + i) 0) → Stored x L w count → Stored x L w' count

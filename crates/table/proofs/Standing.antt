@@ -37,8 +37,8 @@ use Rattle.table_live.specs.Steps.{Outgoing, Steppable}
 use Rattle.table.specs.Built.{Built, Stored}
 use Rattle.table.specs.Finals.{flagPlace, isFinalIn, stateIn}
 use Rattle.table.specs.Opening.{Holds}
-use Rattle.table.specs.Standing.{Numbered, Stands}
-use Rattle.table.proofs.BuildBlock.{explored-built, explored-stored, stored-kept}
+use Rattle.table.specs.Standing.{Numbered, Raised, Stands}
+use Rattle.table.proofs.BuildBlock.{explored-built, explored-stored, explored-told, stored-kept}
 use Rattle.table.proofs.FileArcs.{built-findable, built-outgoing}
 use Rattle.table.proofs.FinalLaws.{configurations-states, final-view, flag-inside}
 use Rattle.table.proofs.Opening.{holds-count, registers-are, valid-walkable}
@@ -111,6 +111,9 @@ module _ (file : List ℕ) {c : Counts} {w w' : List ℕ} (block : Block) (e : r
         findable = built-findable file c (walk .lies) (subst (λ (x : Automaton). Built x 256 w' block) d built) (subst (λ (x : Automaton). Stored x 256 w' (block .count)) d stored)
             (configured-kept (λ j g l. below j l) (found .block .configured));
       }
+
+  pub closed-raised : Raised file c w' block
+  closed-raised = record { stands = closed-stands; tells = explored-told (automatonOf file) 256 found few (place .above) kept closed }
 
 module _ {file : List ℕ} {c : Counts} {w : List ℕ} {block : Block} (h : Stands file c w block) where
   pub stands-numbered : Numbered file c w (block .count)

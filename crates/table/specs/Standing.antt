@@ -4,7 +4,7 @@ use mathlib.Core.Path.{_≡_}
 use mathlib.Core.List.{List}
 use Prim.Native.Nat.{_+_, _≤_, ℕ}
 use lib.ListN.{length}
-use Rattle.automata.specs.Unfolding.{configurations}
+use Rattle.automata.specs.Unfolding.{configurations, plainArcs}
 use Rattle.file_fields.specs.declared.Counts.{Counts}
 use Rattle.file_fields.specs.declared.Reading.the-variants.{Valid}
 use Rattle.format.specs.Decoding.{automatonOf}
@@ -14,6 +14,7 @@ use Rattle.word_layout.specs.declared.Block.{Block}
 use Rattle.table_operations.specs.Arcs.{Indexed, Linked}
 use Rattle.table_configurations.specs.declared.Explored.{Explored}
 use Rattle.table_configurations.specs.declared.Explored.the-variants.{Tables, TooMany}
+use Rattle.table_sets.specs.Stepping.{Tells}
 use Rattle.table_file_steps.specs.FileSteps.{Findable}
 use Rattle.table.specs.Built.{Built, Stored}
 
@@ -36,7 +37,13 @@ pub record Stands (file : List ℕ) (c : Counts) (w : List ℕ) (block : Block) 
   pub linked : Linked c file w
   pub findable : Findable w (block .count)
 
+-- the automaton is built, and its block tells the plain arcs by every byte but that of the empty moves: no arc is listed with a byte that is
+-- no letter's number
+pub record Raised (file : List ℕ) (c : Counts) (w : List ℕ) (block : Block) : Type 0 where
+  pub stands : Stands file c w block
+  pub tells : Tells 255 (plainArcs (automatonOf file) 256) w block
+
 -- the block from the word `base` on, of what building answers
 abbrev pub StandsBy : (file : List ℕ) (c : Counts) (w : List ℕ) (base : ℕ) → Explored → Type 0
 StandsBy file c w base TooMany = Unit {0}
-StandsBy file c w base (Tables count plain) = Stands file c w (record { base = base; count = count; plain = plain })
+StandsBy file c w base (Tables count plain) = Raised file c w (record { base = base; count = count; plain = plain })

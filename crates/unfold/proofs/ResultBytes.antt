@@ -23,7 +23,7 @@ module _ {file : List ℕ} {c : Counts} {w : List ℕ} {block : Block} (h : Hold
   abbrev x : Automaton
   x = automatonOf file
 
-  letters-are : letters x ≡ c .letters
+  pub letters-are : letters x ≡ c .letters
   letters-are = ap (λ (d : Counts). d .letters) (valid-sizes file c (holds-valid h))
 
   -- there are configurations, and at most 256

@@ -14,6 +14,7 @@ use super::flags::write_flags;
 use file_writing::Written;
 use file_writing::front::write_front;
 use format::Counts;
+use format::fields::flags_at;
 use table::finals::final_configurations;
 use word_layout::Block;
 
@@ -30,7 +31,8 @@ fn write_file(out: &mut [u8], file: &[u8], c: Counts, w: &[u64], block: Block) -
         symbols: 1,
         arcs: block.plain,
     };
-    let flags = write_front(out, counts, c, file);
+    let end = flags_at(c);
+    let flags = write_front(out, counts, &file[12..end]);
     let finals = final_configurations(file, c, w, block.count);
     let arcs = write_flags(out, flags, finals, block.count);
     write_arcs(out, arcs, w, block)

@@ -56,9 +56,29 @@ fn letter_number(letters: &[u8], byte: u8) -> Option<usize> {
     letters.iter().position(|l| l.eq_ignore_ascii_case(&byte))
 }
 
-/// Do the two list the same letters, place by place?
-fn same_letters(x: &Automaton, y: &Automaton) -> bool {
-    x.letters.eq_ignore_ascii_case(&y.letters)
+/// The letters of both, ascending: the bytes of the first, and those of the second that stand for none of its letters.
+fn letters_of_both(x: &Automaton, y: &Automaton) -> Vec<u8> {
+    let mut all = x.letters.clone();
+    for &byte in &y.letters {
+        if letter_number(&x.letters, byte).is_none() {
+            all.push(byte);
+        }
+    }
+    all.sort();
+    all
+}
+
+/// The automaton over a list that has all its letters: each arc has the number that its letter has there.
+fn over_letters(x: &Automaton, letters: &[u8]) -> Automaton {
+    let mut over = x.clone();
+    for arc in &mut over.arcs {
+        if let Some(number) = arc.letter {
+            let there = letter_number(letters, x.letters[number]);
+            arc.letter = Some(there.expect("a letter of the list"));
+        }
+    }
+    over.letters = letters.to_vec();
+    over
 }
 
 // ---- the file
@@ -315,6 +335,18 @@ fn live_after(
     close_by_empty_moves(x, next)
 }
 
+/// The same by a byte: one that is no letter leaves nothing live.
+fn live_after_byte(
+    x: &Automaton,
+    set: &BTreeSet<Configuration>,
+    byte: u8,
+) -> BTreeSet<Configuration> {
+    match letter_number(&x.letters, byte) {
+        None => BTreeSet::new(),
+        Some(letter) => live_after(x, set, letter),
+    }
+}
+
 fn is_accepted(x: &Automaton, set: &BTreeSet<Configuration>) -> bool {
     set.iter().any(|c| x.finals[c.0])
 }
@@ -324,6 +356,17 @@ fn read_one(file: &[u8], automaton: u8) -> Result<Automaton, Refusal> {
         number: fault.number,
         automaton,
     })
+}
+
+/// The automata of two files, and the letters of both.
+fn read_two(first: &[u8], second: &[u8]) -> Result<(Automaton, Automaton, Vec<u8>), Refusal> {
+    let x = read_one(first, 1)?;
+    let y = read_one(second, 2)?;
+    let letters = letters_of_both(&x, &y);
+    if letters.len() > 64 {
+        return refuse(11, 0);
+    }
+    Ok((x, y, letters))
 }
 
 /// Whether the word is accepted, and how many configurations are live after it.
@@ -337,10 +380,7 @@ pub fn accepts(file: &[u8], word: &[u8], words_lent: usize) -> Result<(bool, usi
     }
     let mut live = live_at_start(&x);
     for &byte in word {
-        let Some(letter) = letter_number(&x.letters, byte) else {
-            return Ok((false, 0));
-        };
-        live = live_after(&x, &live, letter);
+        live = live_after_byte(&x, &live, byte);
     }
     Ok((is_accepted(&x, &live), live.len()))
 }
@@ -387,8 +427,8 @@ pub enum Verdict {
     Same {
         pairs: usize,
     },
-    /// The first word that exactly one accepts, in the first file's bytes, and which accepts it: 1 or 2. Words come in order
-    /// by their length, and then by the places of their letters in the letter list.
+    /// The first word that exactly one accepts, in the bytes of the letters of both, and which accepts it: 1 or 2. Words come in
+    /// order by their length, and then by the places of their letters in that list.
     Different {
         pairs: usize,
         accepted_by: u8,
@@ -426,7 +466,7 @@ fn first_word(behind: &[Vec<usize>], differs: &[bool]) -> Option<(Vec<usize>, us
     Some((word, at))
 }
 
-/// The verdict on two files.
+/// The verdict on two files, over words of the letters of both; a letter that one of them lacks leaves nothing live there.
 pub fn compare(
     first: &[u8],
     second: &[u8],
@@ -436,11 +476,7 @@ pub fn compare(
     if words_lent < 8192 || room < 512 {
         return refuse(24, 0);
     }
-    let x = read_one(first, 1)?;
-    let y = read_one(second, 2)?;
-    if !same_letters(&x, &y) {
-        return refuse(10, 0);
-    }
+    let (x, y, letters) = read_two(first, second)?;
     for (automaton, z) in [(1, &x), (2, &y)] {
         match explore(z) {
             None => return refuse(21, automaton),
@@ -456,10 +492,10 @@ pub fn compare(
     while behind.len() < pairs.len() {
         let (left, right) = pairs[behind.len()].clone();
         let mut targets = Vec::new();
-        for letter in 0..x.letters.len() {
+        for &byte in &letters {
             let next = (
-                live_after(&x, &left, letter),
-                live_after(&y, &right, letter),
+                live_after_byte(&x, &left, byte),
+                live_after_byte(&y, &right, byte),
             );
             let number = *met.entry(next.clone()).or_insert(pairs.len());
             if number == pairs.len() {
@@ -482,7 +518,7 @@ pub fn compare(
         Some((word, at)) => Verdict::Different {
             pairs: pairs.len(),
             accepted_by: if accepted[at].0 { 1 } else { 2 },
-            word: word.iter().map(|&letter| x.letters[letter]).collect(),
+            word: word.iter().map(|&place| letters[place]).collect(),
         },
     })
 }
@@ -578,13 +614,10 @@ pub fn count_each_word(file: &[u8], length: u64) -> (u64, u64) {
 
 // ---- joins
 
+/// The automata of two files, each over the letters of both.
 fn two(first: &[u8], second: &[u8]) -> Result<(Automaton, Automaton), Refusal> {
-    let x = read_one(first, 1)?;
-    let y = read_one(second, 2)?;
-    if !same_letters(&x, &y) {
-        return refuse(10, 0);
-    }
-    Ok((x, y))
+    let (x, y, letters) = read_two(first, second)?;
+    Ok((over_letters(&x, &letters), over_letters(&y, &letters)))
 }
 
 fn within_limits(x: &Automaton, room: usize) -> Result<Vec<u8>, Refusal> {

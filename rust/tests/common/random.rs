@@ -111,6 +111,80 @@ fn in_other_cases(r: &mut Random, letters: &[u8]) -> Vec<u8> {
     all
 }
 
+/// As many letters as asked for that the list lacks, no two of them one letter, in any order.
+fn letters_lacked(r: &mut Random, letters: &[u8], many: usize) -> Vec<u8> {
+    let near = letters.len() + many <= 10 && r.one_in(2);
+    let mut all: Vec<u8> = Vec::new();
+    while all.len() < many {
+        let byte = if near {
+            r.of(b"abcdefgzABCDEFGZ@[`{\x00\xfe\xff")
+        } else {
+            r.below(256) as u8
+        };
+        let mut listed = letters.iter().chain(&all);
+        if !listed.any(|l| l.eq_ignore_ascii_case(&byte)) {
+            all.push(byte);
+        }
+    }
+    all
+}
+
+/// A second list, which has some of the first one's letters, in its own cases or in theirs, and as many that it lacks as asked for.
+fn sharing(r: &mut Random, first: &[u8], kept: Vec<u8>, lacked: usize) -> Vec<u8> {
+    let mut all = if r.one_in(2) {
+        in_other_cases(r, &kept)
+    } else {
+        kept
+    };
+    all.extend(letters_lacked(r, first, lacked));
+    all.sort();
+    all
+}
+
+/// The list of a second file. Mostly it agrees with the first, or has the same letters in other cases, which may then stand at other
+/// places; else it shares some letters or none, is empty, or has the two list 64 letters together, or 65.
+fn letters_beside(r: &mut Random, first: &[u8]) -> Vec<u8> {
+    match r.below(12) {
+        0..=3 => first.to_vec(),
+        4 | 5 => in_other_cases(r, first),
+        6 | 7 => {
+            let kept = first.iter().copied().filter(|_| !r.one_in(3)).collect();
+            let lacked = r.of(&[0, 1, 1, 2, 3]);
+            sharing(r, first, kept, lacked)
+        }
+        8 => {
+            let lacked = r.of(&[1, 1, 2, 5, 30]);
+            sharing(r, first, Vec::new(), lacked)
+        }
+        9 => Vec::new(),
+        10 => {
+            let lacked = (r.of(&[64, 65]) - first.len()).min(64);
+            let most = first.len().min(64 - lacked);
+            let kept = first[..r.below(most + 1)].to_vec();
+            sharing(r, first, kept, lacked)
+        }
+        _ => letters(r),
+    }
+}
+
+/// The automaton over another list: without the arcs whose letters that list lacks.
+fn over(x: &Automaton, letters: &[u8]) -> Automaton {
+    let number = |byte: u8| letters.iter().position(|l| l.eq_ignore_ascii_case(&byte));
+    let mut y = x.clone();
+    y.letters = letters.to_vec();
+    y.arcs.clear();
+    for arc in &x.arcs {
+        let letter = arc.letter.map(|l| number(x.letters[l]));
+        if letter != Some(None) {
+            y.arcs.push(Arc {
+                letter: letter.flatten(),
+                ..arc.clone()
+            });
+        }
+    }
+    y
+}
+
 fn operation(r: &mut Random, registers: usize, symbols: usize) -> Operation {
     let register = r.below(registers);
     if register == 0 {
@@ -280,29 +354,26 @@ pub fn file(r: &mut Random, letters: &[u8]) -> Vec<u8> {
     }
 }
 
-/// A couple of files, mostly over the same letters, sometimes in other cases, often nearly the same automaton.
+/// A couple of files, mostly over the same letters, often nearly the same automaton.
 pub fn couple(r: &mut Random) -> (Vec<u8>, Vec<u8>) {
-    let shared = letters(r);
+    let listed = letters(r);
     let any = if r.one_in(2) { automaton } else { sparse };
-    let x = any(r, &shared);
-    let mut y = match r.below(4) {
-        0 => x.clone(),
-        1 => changed(r, &x),
-        _ => any(r, &shared),
+    let x = any(r, &listed);
+    let beside = letters_beside(r, &listed);
+    let y = match r.below(4) {
+        0 => over(&x, &beside),
+        1 => changed(r, &over(&x, &beside)),
+        _ => any(r, &beside),
     };
-    if r.one_in(3) {
-        y.letters = in_other_cases(r, &shared);
-    }
     let (mut first, mut second) = (write(&x), write(&y));
+    if r.one_in(2) {
+        (first, second) = (second, first);
+    }
     if r.one_in(12) {
         first = damaged(r, first);
     }
     if r.one_in(12) {
         second = damaged(r, second);
-    }
-    if r.one_in(20) {
-        let other = letters(r);
-        second = file(r, &other);
     }
     (first, second)
 }

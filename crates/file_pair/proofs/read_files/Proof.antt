@@ -8,9 +8,10 @@ use borrow.Author.Tests.{not-false, not-true}
 use Rattle.file_fields.specs.declared.Reading.the-variants.{Valid}
 use Rattle.file_fields.specs.Parts.{numberOf}
 use Rattle.format.specs.Reading.{readingOf}
+use lib.ListN.{length-drop, length-take}
 use Rattle.file_fields.proofs.Laws.{lent-letters}
 use Rattle.file_laws.proofs.Laws.{valid-letters}
-use Rattle.file_pair.specs.declared.Files.the-variants.{Both, Fault}
+use Rattle.file_pair.specs.declared.Files.the-variants.{Fault}
 use Rattle.file_pair.specs.Pair.{filesOf}
 use Rattle.file_pair.proofs.read_files.Statement.{statement}
 use Rattle.file_pair.proofs.PairLaws.{first-fault, second-fault, valid-files}
@@ -35,33 +36,30 @@ left-valid c = let r = c .before .before .before .before .before .before .before
 right-valid : (c : tie.After-known-told2) → readingOf (c .before .before .before .before .before .before .before .before .before .before .args .second .now) ≡ Valid (c .before .right .given .0 .0)
 right-valid c = sym (c .before .before .before .read2 .ensures) ∙ c .before .right .given .1
 
--- both files are valid: what comparing the letters says
-compared : (c : tie.After-same-letters) → let v = c .before .before .before .before .before in let a = v .before .before .before .before .before .before .before .before .before .before .args in
-    filesOf (a .first .now) (a .second .now) ≡ cond (not (c .same-letters .result)) (Fault 10 0) (Both (v .before .before .before .before .before .left .given .0 .0) (v .before .right .given .0 .0))
-compared c =
-    let v = c .before .before .before .before .before in
-    let a = v .before .before .before .before .before .before .before .before .before .before .args in
-    let m = v .before .before .before .before .before .left .given .0 .0 in
-    let n = v .before .right .given .0 .0 in
-    valid-files (a .first .now) (a .second .now) (left-valid v) (right-valid v) ∙ rw (c .same-letters .ensures, c .before .before .before .before .flags-at .ensures, c .before .before .before .flags-at2 .ensures, lent-letters m (a .first .now), lent-letters n (a .second .now))
-
 flags-at-requires : tie.Need-flags-at-requires
 flags-at-requires c κs = omega (arith, valid-letters _ _ (left-valid c))
 
 flags-at-requires-2 : tie.Need-flags-at-requires-2
 flags-at-requires-2 c κs = omega (arith, valid-letters _ _ (right-valid (c .before)))
 
-part-same-letters-end : tie.Need-part-same-letters-end
-part-same-letters-end c = omega (arith, valid-letters _ _ (left-valid (c .before .before)))
+part-judge-letters-end : tie.Need-part-judge-letters-end
+part-judge-letters-end c = omega (arith, valid-letters _ _ (left-valid (c .before .before)))
 
-part-same-letters-end-2 : tie.Need-part-same-letters-end-2
-part-same-letters-end-2 c = omega (arith, valid-letters _ _ (right-valid (c .before .before .before)))
+part-judge-letters-end-2 : tie.Need-part-judge-letters-end-2
+part-judge-letters-end-2 c = omega (arith, valid-letters _ _ (right-valid (c .before .before .before)))
+
+judge-letters-requires : tie.Need-judge-letters-requires
+judge-letters-requires c κs =
+    let v = c .before .before .before .before in
+    simp (length-take, length-drop) (omega (arith, valid-letters _ _ (left-valid v), c .before .before .before .flags-at .ensures), omega (arith, valid-letters _ _ (right-valid v), c .before .before .flags-at2 .ensures))
 
 returns-3 : tie.Need-returns-3
-returns-3 c = sym (compared (c .before) ∙ rw (not-true (c .before .same-letters .result) (c .if1 .taken)))
-
-returns-4 : tie.Need-returns-4
-returns-4 c = sym (compared (c .before) ∙ rw (not-false (c .before .same-letters .result) (c .if1 .left)))
+returns-3 c =
+    let v = c .before .before .before .before .before in
+    let a = v .before .before .before .before .before .before .before .before .before .before .args in
+    let m = v .before .before .before .before .before .left .given .0 .0 in
+    let n = v .before .right .given .0 .0 in
+    sym (valid-files (a .first .now) (a .second .now) (left-valid v) (right-valid v) ∙ rw (c .judge-letters .ensures, c .before .before .before .before .flags-at .ensures, c .before .before .before .flags-at2 .ensures, lent-letters m (a .first .now), lent-letters n (a .second .now)))
 
 pub read-files-spec : {M : Type 1} → statement M
 read-files-spec =
@@ -81,10 +79,9 @@ read-files-spec =
     flags-at-requires-2
     (λ c. search needs)
     (λ c. search needs)
-    part-same-letters-end
+    part-judge-letters-end
     (λ c. search needs)
     (λ c. search needs)
-    part-same-letters-end-2
-    (λ c κs. search needs)
-    returns-3
-    returns-4)
+    part-judge-letters-end-2
+    judge-letters-requires
+    returns-3)

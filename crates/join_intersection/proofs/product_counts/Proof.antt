@@ -3,18 +3,21 @@ use mathlib.Core.Path.{ap}
 use native.Mathlib.Omega.{arith}
 use native.Mathlib.Nat.{mul-le-mul-left}
 use borrow.Author.Needs.{needs}
+use Rattle.relettering.specs.Relettering.{withLetters}
 use Rattle.join_product_count.specs.ProductArcs.{withArcs}
 use Rattle.join_intersection.proofs.IntersectionBytes.{intersection-counts}
 use Rattle.join_intersection.proofs.product_counts.Statement.{statement}
 use Rattle.join_intersection.proofs.product_counts.Tie as tie
 
-mul-t4 : tie.Need-mul-t4
-mul-t4 c =
+mul-t5 : tie.Need-mul-t5
+mul-t5 c =
     let s = c .before .before in
     omega (arith, mul-le-mul-left (s .args .a .states) (s .pre .1 .states), s .pre .0 .states)
 
 returns : tie.Need-returns
-returns c = λ x y p q. rw (c .larger .ensures, ← p, ← q) (ap (withArcs (c .before .before .before .before .before .args .arcs)) (intersection-counts x y))
+unfolding withLetters
+returns c = λ x y one two all p q l.
+    rw (c .larger .ensures, ← p, ← q, ← l) (ap (withArcs (c .before .before .before .before .before .args .arcs)) (intersection-counts (withLetters one all x) (withLetters two all y)))
 
 pub product-counts-spec : {M : Type 1} → statement M
-product-counts-spec = tie.close (tie.spec mul-t4 (λ c. search needs) (λ c. search needs) (λ c κs. search needs) returns)
+product-counts-spec = tie.close (tie.spec mul-t5 (λ c. search needs) (λ c. search needs) (λ c κs. search needs) returns)

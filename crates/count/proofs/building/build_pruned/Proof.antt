@@ -33,7 +33,7 @@ returns c =
 -- it stands in its block
 stands : (z : tie.After-known-told) → let s = start (from z) in
     Stands (s .args .file .now) (s .args .c) (from z .build .last .1 .1 .0) (record { base = onlyBlock; count = z .before .count .given .0 .0; plain = z .before .count .given .0 .1 .0 })
-stands z = let s = start (from z) in subst (λ (r : Explored). StandsBy (s .args .file .now) (s .args .c) (from z .build .last .1 .1 .0) onlyBlock r) (z .before .count .given .1) (from z .build .ensures .1 .1)
+stands z = let s = start (from z) in subst (λ (r : Explored). StandsBy (s .args .file .now) (s .args .c) (from z .build .last .1 .1 .0) onlyBlock r) (z .before .count .given .1) (from z .build .ensures .1 .1) .stands
 
 -- its plain arcs are too many to be listed
 returns-2 : tie.Need-returns-2

@@ -11,7 +11,7 @@ use Rattle.table_configurations.specs.declared.Explored.{Explored}
 use Rattle.table_configurations.specs.declared.Explored.the-variants.{Tables, TooMany}
 use Rattle.table_configurations.proofs.Laws.{placed-kept}
 use Rattle.table.proofs.Opening.{registers-are, valid-walkable}
-use Rattle.table.proofs.Standing.{closed-stands}
+use Rattle.table.proofs.Standing.{closed-raised}
 use Rattle.table.proofs.block.build.Statement.{statement}
 use Rattle.table.proofs.block.build.Tie as tie
 
@@ -50,7 +50,7 @@ returns-2 c =
     let x = e .explore-all .ensures in
     let y = k .close-rows .ensures in
     let f = told e (Tables (v .0 .0) (v .0 .1 .0)) (v .1) in
-    (but-then (x .0) (but-high (omega (arith, p .1 .above)) (omega arith) (omega (arith, f .block .configured .few)) (y .0)), (f .answer, closed-stands (s .args .file .now) (record { base = s .args .base; count = v .0 .0; plain = v .0 .1 .0 }) (p .0) (placed-kept (x .0 .long) (p .1)) (x .1 .0 .0) (x .1 .0 .1) f (kept-wider (omega arith) (omega arith) (y .0)) (y .1)))
+    (but-then (x .0) (but-high (omega (arith, p .1 .above)) (omega arith) (omega (arith, f .block .configured .few)) (y .0)), (f .answer, closed-raised (s .args .file .now) (record { base = s .args .base; count = v .0 .0; plain = v .0 .1 .0 }) (p .0) (placed-kept (x .0 .long) (p .1)) (x .1 .0 .0) (x .1 .0 .1) f (kept-wider (omega arith) (omega arith) (y .0)) (y .1)))
 
 pub build-spec : {M : Type 1} → statement M
 build-spec =

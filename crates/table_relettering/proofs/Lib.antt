@@ -1,0 +1,3 @@
+pub mod RelistingLaws
+pub mod Retold
+pub mod Laws
