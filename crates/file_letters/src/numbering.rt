@@ -20,7 +20,7 @@ pub fn place_of(letters: &[u8], byte: u8) -> usize
         }
         i += 1;
     }
-    i
+    letters.len()
 }
 
 // The new numbers of the letters `own`: their places in the list `all`. What stands behind them means nothing. Refuses nothing. Cost: the

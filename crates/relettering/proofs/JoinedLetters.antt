@@ -130,3 +130,12 @@ module _ (a : List ℕ) where
 -- of two lists with the same letters, place by place, the joined list is the first
 pub joined-same : (a b : List ℕ) → keys a ≡ keys b → joinedLetters a b ≡ a
 joined-same a b e = joined-first a b (λ k m. rw e m)
+
+-- by example: c, e, m and then C, M, g; B, a and then A, b, c: a letter of both has the first list's byte
+joined-here : joinedLetters (0x63 ∷ 0x65 ∷ 0x6D ∷ []) (0x43 ∷ 0x4D ∷ 0x67 ∷ []) ≡ 0x63 ∷ 0x65 ∷ 0x67 ∷ 0x6D ∷ []
+unfolding joinedLetters key
+joined-here = refl
+
+joined-there : joinedLetters (0x42 ∷ 0x61 ∷ []) (0x41 ∷ 0x62 ∷ 0x63 ∷ []) ≡ 0x42 ∷ 0x61 ∷ 0x63 ∷ []
+unfolding joinedLetters key
+joined-there = refl
