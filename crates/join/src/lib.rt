@@ -6,7 +6,6 @@
 ghost use mathlib.Core.Path.{_≡_};
 ghost use lib.ListN.{length};
 ghost use Rattle.automata.specs.Joins.{union, concatenation, intersection, closure};
-ghost use Rattle.automata.specs.Words.{SameLetters};
 ghost use Rattle.format.specs.Decoding.{automatonOf};
 ghost use Rattle.format.specs.Encoding.{bytesOf};
 ghost use Rattle.file_writing.specs.Answers.{outputOf};
@@ -22,7 +21,7 @@ use format::Counts;
 use format::Reading;
 use format::fields::flags_at;
 
-// Which join of two files.
+// Which join of two files with different letters.
 enum Kind {
     Union,
     Concatenation,
@@ -56,34 +55,8 @@ fn write_join(
     }
 }
 
-// Two files whose letter lists agree: no letter gets a new number. Cost: what the join takes.
-fn join_alike(
-    kind: Kind,
-    out: &mut [u8],
-    a: Counts,
-    first: &[u8],
-    b: Counts,
-    second: &[u8],
-) -> Written
-    requires { ⌜ Joinable a b (now first) (now second) × SameLetters (automatonOf (now first)) (automatonOf (now second)) ⌝ }
-    ensures answer { λ r. ⌜ r ≡ writtenOf (joinOf (joinBy kind) (now (first .entry)) (now (second .entry))) (length (now (out .entry))) ⌝ }
-    ensures output { λ r. ⌜ now (out .exit) ≡ outputOf r (bytesOf (joinOf (joinBy kind) (now (first .entry)) (now (second .entry)))) (now (out .entry)) ⌝ }
-{
-    let end = flags_at(a);
-    write_join(
-        kind,
-        out,
-        a,
-        first,
-        &first[0..0],
-        b,
-        second,
-        &second[0..0],
-        &first[12..end],
-    )
-}
-
-// Two files over their joined letter list. Cost: what joining the lists and the join take.
+// Two files over their joined letter list. Where the lists agree, the calls below go on by themselves: no letter gets a new number then, and
+// nothing is made of the lists. Cost: what joining the lists and the join take.
 fn join_apart(
     kind: Kind,
     out: &mut [u8],
@@ -116,20 +89,6 @@ fn join_apart(
     )
 }
 
-// Two files, read and then joined. Refuses, in this order: the first file's fault, as `format::read` tells it; the second's; 11, more than
-// 64 letters together; 11, the joined automaton beyond another limit; 25, the output shorter than the result.
-// Cost: what reading each file and the join take; and the pairs of letters, where the lists do not agree.
-fn join_files(kind: Kind, first: &[u8], second: &[u8], out: &mut [u8]) -> Written
-    ensures answer { λ r. ⌜ r ≡ joinedOf (joinBy kind) (now (first .entry)) (now (second .entry)) (length (now (out .entry))) ⌝ }
-    ensures output { λ r. ⌜ now (out .exit) ≡ outputOf r (bytesOf (joinOf (joinBy kind) (now (first .entry)) (now (second .entry)))) (now (out .entry)) ⌝ }
-{
-    match read_files(first, second) {
-        Files::Fault(number, automaton) => Written::Refused(number, automaton),
-        Files::Alike(a, b) => join_alike(kind, out, a, first, b, second),
-        Files::Apart(a, b) => join_apart(kind, out, a, first, b, second),
-    }
-}
-
 // Writes an automaton that accepts the words of either: a new state 0 with an empty move into each.
 // Refuses, in this order: the first file's fault, as `format::read` tells it; the second's; 11, more than 64 letters together, or the
 // joined automaton beyond a limit on states or arcs; 25, the output shorter than the result.
@@ -138,7 +97,23 @@ pub fn union(first: &[u8], second: &[u8], out: &mut [u8]) -> Written
     ensures answer { λ r. ⌜ r ≡ joinedOf union (now (first .entry)) (now (second .entry)) (length (now (out .entry))) ⌝ }
     ensures output { λ r. ⌜ now (out .exit) ≡ outputOf r (bytesOf (joinOf union (now (first .entry)) (now (second .entry)))) (now (out .entry)) ⌝ }
 {
-    join_files(Kind::Union, first, second, out)
+    match read_files(first, second) {
+        Files::Fault(number, automaton) => Written::Refused(number, automaton),
+        Files::Alike(a, b) => {
+            let end = flags_at(a);
+            join_union::unite(
+                out,
+                a,
+                first,
+                &first[0..0],
+                b,
+                second,
+                &second[0..0],
+                &first[12..end],
+            )
+        }
+        Files::Apart(a, b) => join_apart(Kind::Union, out, a, first, b, second),
+    }
 }
 
 // Writes an automaton that accepts the words of the first, each followed by a word of the second: from each final state of the
@@ -150,7 +125,23 @@ pub fn concatenate(first: &[u8], second: &[u8], out: &mut [u8]) -> Written
     ensures answer { λ r. ⌜ r ≡ joinedOf concatenation (now (first .entry)) (now (second .entry)) (length (now (out .entry))) ⌝ }
     ensures output { λ r. ⌜ now (out .exit) ≡ outputOf r (bytesOf (joinOf concatenation (now (first .entry)) (now (second .entry)))) (now (out .entry)) ⌝ }
 {
-    join_files(Kind::Concatenation, first, second, out)
+    match read_files(first, second) {
+        Files::Fault(number, automaton) => Written::Refused(number, automaton),
+        Files::Alike(a, b) => {
+            let end = flags_at(a);
+            join_concatenation::append(
+                out,
+                a,
+                first,
+                &first[0..0],
+                b,
+                second,
+                &second[0..0],
+                &first[12..end],
+            )
+        }
+        Files::Apart(a, b) => join_apart(Kind::Concatenation, out, a, first, b, second),
+    }
 }
 
 // Writes an automaton that accepts the words of both: its states are the pairs of theirs, and it has the registers of both.
@@ -162,7 +153,23 @@ pub fn intersect(first: &[u8], second: &[u8], out: &mut [u8]) -> Written
     ensures answer { λ r. ⌜ r ≡ joinedOf intersection (now (first .entry)) (now (second .entry)) (length (now (out .entry))) ⌝ }
     ensures output { λ r. ⌜ now (out .exit) ≡ outputOf r (bytesOf (joinOf intersection (now (first .entry)) (now (second .entry)))) (now (out .entry)) ⌝ }
 {
-    join_files(Kind::Intersection, first, second, out)
+    match read_files(first, second) {
+        Files::Fault(number, automaton) => Written::Refused(number, automaton),
+        Files::Alike(a, b) => {
+            let end = flags_at(a);
+            join_intersection::product(
+                out,
+                a,
+                first,
+                &first[0..0],
+                b,
+                second,
+                &second[0..0],
+                &first[12..end],
+            )
+        }
+        Files::Apart(a, b) => join_apart(Kind::Intersection, out, a, first, b, second),
+    }
 }
 
 // Writes an automaton that accepts the finite sequences of the file's words: a new state 0, initial and final, an empty move
