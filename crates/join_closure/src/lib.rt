@@ -54,7 +54,7 @@ fn write_closure_arcs(out: &mut [u8], at: usize, a: Counts, file: &[u8]) -> usiz
     ensures { λ r. ⌜ Appended at (arcsBytes (closure (automatonOf (now (file .entry))) .arcs)) (now (out .entry)) (now (out .exit)) r ⌝ }
 {
     let arcs = write_entry(out, at, 1);
-    let returns = write_moved_arcs(out, arcs, a, file, &file[0..0], 1, 0);
+    let returns = write_moved_arcs(out, arcs, a, file, 1, 0);
     write_final_arcs(out, returns, a, file, 1, 1, a.registers)
 }
 

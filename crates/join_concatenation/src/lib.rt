@@ -24,7 +24,7 @@ use join_parts::answer::larger;
 use join_parts::finals::count_finals;
 use join_parts::finals::write_final_arcs;
 use join_parts::flags::write_flags;
-use join_parts::groups::write_moved_arcs;
+use join_parts::groups::write_arcs;
 
 // The counts of the concatenation of automata with these counts, the first with this number of final states, over this number of letters.
 // Cost: constant.
@@ -57,9 +57,9 @@ fn write_concatenation_arcs(
     ensures { λ r. ⌜ Appended at (arcsBytes (concatenation (automatonOver (now (one .entry)) [] (now (first .entry))) (automatonOver (now (two .entry)) [] (now (second .entry))) .arcs)) (now (out .entry)) (now (out .exit)) r ⌝ }
 {
     let shift = a.registers - 1;
-    let between = write_moved_arcs(out, at, a, first, one, 0, 0);
+    let between = write_arcs(out, at, a, first, one, 0, 0);
     let right = write_final_arcs(out, between, a, first, 0, a.states, 1);
-    write_moved_arcs(out, right, b, second, two, a.states, shift)
+    write_arcs(out, right, b, second, two, a.states, shift)
 }
 
 // The whole concatenation, with the counts c. Cost: the bytes written.

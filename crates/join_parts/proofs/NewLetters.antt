@@ -1,5 +1,5 @@
 -- NewLetters: arcs with the new numbers of their letters: their bytes, and how many these are; and automata over the same letters.
-use mathlib.Core.Path.{_∙_, _≡_, refl, sym}
+use mathlib.Core.Path.{_∙_, _≡_, ap₂, refl, sym}
 use mathlib.Core.Bool.{Bool, false, true}
 use mathlib.Core.List.{List, [], _∷_, map}
 use mathlib.Core.Option.{Option·map}
@@ -12,7 +12,7 @@ use Rattle.automata.specs.Automaton.{Arc, Automaton, Op}
 use Rattle.automata.specs.Joins.{arcFrom}
 use Rattle.automata.specs.Words.{SameLetters}
 use Rattle.relettering.specs.Relettering.{letterBy, reletteredArc, withLetters}
-use Rattle.relettering.proofs.Laws.{number-beyond}
+use Rattle.relettering.proofs.Laws.{arc-unnumbered, number-beyond}
 use Rattle.format.specs.Decoding.{letterOf}
 use Rattle.format.specs.Encoding.{arcBytes, arcsBytes, letterByte}
 use Rattle.file_laws.proofs.Laws.{letter-same}
@@ -43,6 +43,12 @@ module _ (new : List ℕ) where
     pub relettered-bytes : (s x t : ℕ) (ops : List Op) → arcBytes (arcFrom s (letterOf (letterBy new x)) t ops) ≡ arcBytes (arcFrom s (Option·map (letterBy new) (letterOf x)) t ops)
     unfolding arcBytes
     relettered-bytes s x t ops = rw (letter-same (letterBy new x), letter-byte x)
+
+-- by no new numbers arcs are as they were
+pub arcs-unnumbered : (new : List ℕ) (l : List Arc) → length new ≡ 0 → map (reletteredArc new) l ≡ l
+arcs-unnumbered (x ∷ new) l e = absurd (omega arith)
+arcs-unnumbered [] [] e = refl
+arcs-unnumbered [] (a ∷ l) e = ap₂ (λ (b : Arc) (r : List Arc). b ∷ r) (arc-unnumbered a) (arcs-unnumbered [] l e)
 
 -- an automaton over other letters: its arcs take as many bytes as they took
 pub over-length : (new all : List ℕ) (x : Automaton) → length (arcsBytes (withLetters new all x .arcs)) ≡ length (arcsBytes (x .arcs))

@@ -33,9 +33,47 @@ pub fn write_entry(out: &mut [u8], at: usize, t: usize) -> usize
     write_plain_arc(out, at, f)
 }
 
+// The arc at a place of a file, its states moved by s, its registers from 1 up by k. Cost: its operations.
+fn write_moved_arc(out: &mut [u8], at: usize, file: &[u8], from: usize, s: usize, k: usize) -> usize
+    requires { ⌜ (from + arcSize (drop from (now file)) ≤ length (now file)) × (s + arcOf (drop from (now file)) .source < 256) × (s + arcOf (drop from (now file)) .target < 256) × (k ≤ 8) × (at + arcSize (drop from (now file)) ≤ length (now out)) ⌝ }
+    ensures { λ r. ⌜ Appended at (arcBytes (movedArc s k (arcOf (drop from (now (file .entry)))))) (now (out .entry)) (now (out .exit)) r ⌝ }
+{
+    let f = Fields {
+        source: s + byte(file, from),
+        letter: byte(file, from + 1),
+        target: s + byte(file, from + 2),
+    };
+    let p = byte(file, from + 3);
+    let ops = from + 4;
+    write_arc(out, at, f, &file[ops..], p, k)
+}
+
+// All arcs of a file with the counts c, their states moved by s, their registers from 1 up by k. Cost: their bytes.
+pub fn write_moved_arcs(
+    out: &mut [u8],
+    at: usize,
+    c: Counts,
+    file: &[u8],
+    s: usize,
+    k: usize,
+) -> usize
+    requires { ⌜ (readingOf (now file) ≡ Valid c) × (s + c .states ≤ 256) × (k ≤ 8) × (at + length (arcsBytes (map (movedArc s k) (automatonOf (now file) .arcs))) ≤ length (now out)) ⌝ }
+    ensures { λ r. ⌜ Appended at (arcsBytes (map (movedArc s k) (automatonOf (now (file .entry)) .arcs))) (now (out .entry)) (now (out .exit)) r ⌝ }
+{
+    let mut from = first_arc(c);
+    let mut to = at;
+    let mut i: usize = 0;
+    while i < c.arcs {
+        to = write_moved_arc(out, to, file, from, s, k);
+        from += arc_size(file, from);
+        i += 1;
+    }
+    to
+}
+
 // The arc at a place of a file with the new number of its letter, its states moved by s, its registers from 1 up by k.
 // Cost: its operations.
-fn write_moved_arc(
+fn write_relettered_arc(
     out: &mut [u8],
     at: usize,
     file: &[u8],
@@ -59,7 +97,7 @@ fn write_moved_arc(
 
 // All arcs of a file with the counts c with the new numbers of their letters, their states moved by s, their registers from 1 up by k.
 // Cost: their bytes.
-pub fn write_moved_arcs(
+fn write_relettered_arcs(
     out: &mut [u8],
     at: usize,
     c: Counts,
@@ -75,9 +113,29 @@ pub fn write_moved_arcs(
     let mut to = at;
     let mut i: usize = 0;
     while i < c.arcs {
-        to = write_moved_arc(out, to, file, from, new, s, k);
+        to = write_relettered_arc(out, to, file, from, new, s, k);
         from += arc_size(file, from);
         i += 1;
     }
     to
+}
+
+// All arcs of a file with the counts c, with the new numbers of their letters, their states moved by s, their registers from 1 up by k. Where
+// no number changes, the loop that looks at none: it is the frequent case. Cost: their bytes.
+pub fn write_arcs(
+    out: &mut [u8],
+    at: usize,
+    c: Counts,
+    file: &[u8],
+    new: &[u8],
+    s: usize,
+    k: usize,
+) -> usize
+    requires { ⌜ (readingOf (now file) ≡ Valid c) × (length (now new) ≤ 64) × (s + c .states ≤ 256) × (k ≤ 8) × (at + length (arcsBytes (map (movedArc s k) (map (reletteredArc (now new)) (automatonOf (now file) .arcs)))) ≤ length (now out)) ⌝ }
+    ensures { λ r. ⌜ Appended at (arcsBytes (map (movedArc s k) (map (reletteredArc (now (new .entry))) (automatonOf (now (file .entry)) .arcs)))) (now (out .entry)) (now (out .exit)) r ⌝ }
+{
+    if new.len() == 0 {
+        return write_moved_arcs(out, at, c, file, s, k);
+    }
+    write_relettered_arcs(out, at, c, file, new, s, k)
 }

@@ -21,8 +21,8 @@ use join_parts::answer::arcs_size;
 use join_parts::answer::decide;
 use join_parts::answer::larger;
 use join_parts::flags::write_flags;
+use join_parts::groups::write_arcs;
 use join_parts::groups::write_entry;
-use join_parts::groups::write_moved_arcs;
 
 // The counts of the union of automata with these counts, over this number of letters. Cost: constant.
 fn union_counts(letters: usize, a: Counts, b: Counts) -> Counts
@@ -56,8 +56,8 @@ fn write_union_arcs(
     let shift = 1 + a.states;
     let next = write_entry(out, at, 1);
     let left = write_entry(out, next, shift);
-    let right = write_moved_arcs(out, left, a, first, one, 1, 0);
-    write_moved_arcs(out, right, b, second, two, shift, 0)
+    let right = write_arcs(out, left, a, first, one, 1, 0);
+    write_arcs(out, right, b, second, two, shift, 0)
 }
 
 // The whole union, with the counts c. Cost: the bytes written.

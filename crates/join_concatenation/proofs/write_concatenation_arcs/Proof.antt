@@ -46,8 +46,8 @@ room s =
 sub-shift : tie.Need-sub-shift
 sub-shift c = omega (arith, valid-ranges _ _ (c .before .before .before .before .before .before .pre .0 .first) .some-register)
 
-write-moved-arcs-requires : tie.Need-write-moved-arcs-requires
-write-moved-arcs-requires c κs =
+write-arcs-requires : tie.Need-write-arcs-requires
+write-arcs-requires c κs =
     let s = c .before .before .before .before .before .before .before in
     (search needs, s .pre .0 .few₁, omega (arith, s .pre .1), omega (arith, valid-ranges _ _ (s .pre .0 .first) .registers), simp (arcs-moved-length, relettered-length) (omega (arith, room s)))
 
@@ -59,11 +59,11 @@ write-final-arcs-requires c κs =
       omega (arith, s .pre .1),
       omega (arith, s .pre .1, valid-ranges _ _ (s .pre .0 .second) .some-state),
       omega arith,
-      simp moves-length (omega (arith, room s, simp (arcs-moved-length, relettered-length) at (appended-ends (left .write-moved-arcs .ensures)))),
+      simp moves-length (omega (arith, room s, simp (arcs-moved-length, relettered-length) at (appended-ends (left .write-arcs .ensures)))),
     )
 
-write-moved-arcs-requires-2 : tie.Need-write-moved-arcs-requires-2
-write-moved-arcs-requires-2 c κs =
+write-arcs-requires-2 : tie.Need-write-arcs-requires-2
+write-arcs-requires-2 c κs =
     let moves = c .before .before .before in
     let left = moves .before .before .before .before in
     let s = left .before .before .before .before .before .before .before .before in (
@@ -72,7 +72,7 @@ write-moved-arcs-requires-2 c κs =
       omega (arith, s .pre .1),
       omega (arith, valid-ranges _ _ (s .pre .0 .first) .registers),
       simp (arcs-moved-length, relettered-length)
-          (omega (arith, room s, simp (arcs-moved-length, relettered-length) at (appended-ends (left .write-moved-arcs .ensures)), simp moves-length at (appended-ends (moves .write-final-arcs .ensures)))),
+          (omega (arith, room s, simp (arcs-moved-length, relettered-length) at (appended-ends (left .write-arcs .ensures)), simp moves-length at (appended-ends (moves .write-final-arcs .ensures)))),
     )
 
 returns : tie.Need-returns
@@ -81,15 +81,15 @@ returns c =
     let moves = right .before .before .before .before in
     let left = moves .before .before .before .before in
     let s = left .before .before .before .before .before .before .before .before in
-    rw (parts s) (written-then (left .write-moved-arcs .ensures) (written-then (moves .write-final-arcs .ensures) (right .write-moved-arcs2 .ensures)))
+    rw (parts s) (written-then (left .write-arcs .ensures) (written-then (moves .write-final-arcs .ensures) (right .write-arcs2 .ensures)))
 
 pub write-concatenation-arcs-spec : {M : Type 1} → statement M
 write-concatenation-arcs-spec =
     tie.close
     (tie.spec
     sub-shift
-    write-moved-arcs-requires
+    write-arcs-requires
     write-final-arcs-requires
-    write-moved-arcs-requires-2
+    write-arcs-requires-2
     (λ c. search needs)
     returns)

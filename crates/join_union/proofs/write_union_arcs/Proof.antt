@@ -41,8 +41,8 @@ write-entry-requires-2 c κs =
       omega (arith, simp length-append at (rw (parts s) at (s .pre .2)), entry-length (1 + s .args .a .states), appended-ends (one .write-entry .ensures)),
     )
 
-write-moved-arcs-requires : tie.Need-write-moved-arcs-requires
-write-moved-arcs-requires c κs =
+write-arcs-requires : tie.Need-write-arcs-requires
+write-arcs-requires c κs =
     let two = c .before .before .before in
     let one = two .before .before .before .before in
     let s = one .before .before .before .before .before .before .before .before in (
@@ -53,8 +53,8 @@ write-moved-arcs-requires c κs =
       omega (arith, simp length-append at (rw (parts s) at (s .pre .2)), appended-ends (one .write-entry .ensures), appended-ends (two .write-entry2 .ensures)),
     )
 
-write-moved-arcs-requires-2 : tie.Need-write-moved-arcs-requires-2
-write-moved-arcs-requires-2 c κs =
+write-arcs-requires-2 : tie.Need-write-arcs-requires-2
+write-arcs-requires-2 c κs =
     let left = c .before .before .before in
     let two = left .before .before .before .before in
     let one = two .before .before .before .before in
@@ -63,7 +63,7 @@ write-moved-arcs-requires-2 c κs =
       s .pre .0 .few₂,
       s .pre .1,
       omega arith,
-      omega (arith, simp length-append at (rw (parts s) at (s .pre .2)), appended-ends (one .write-entry .ensures), appended-ends (two .write-entry2 .ensures), appended-ends (left .write-moved-arcs .ensures)),
+      omega (arith, simp length-append at (rw (parts s) at (s .pre .2)), appended-ends (one .write-entry .ensures), appended-ends (two .write-entry2 .ensures), appended-ends (left .write-arcs .ensures)),
     )
 
 returns : tie.Need-returns
@@ -73,7 +73,7 @@ returns c =
     let two = left .before .before .before .before in
     let one = two .before .before .before .before in
     let s = one .before .before .before .before .before .before .before .before in
-    rw (parts s) (written-then (one .write-entry .ensures) (written-then (two .write-entry2 .ensures) (written-then (left .write-moved-arcs .ensures) (right .write-moved-arcs2 .ensures))))
+    rw (parts s) (written-then (one .write-entry .ensures) (written-then (two .write-entry2 .ensures) (written-then (left .write-arcs .ensures) (right .write-arcs2 .ensures))))
 
 pub write-union-arcs-spec : {M : Type 1} → statement M
 write-union-arcs-spec =
@@ -82,7 +82,7 @@ write-union-arcs-spec =
     (λ c. search needs)
     write-entry-requires
     write-entry-requires-2
-    write-moved-arcs-requires
-    write-moved-arcs-requires-2
+    write-arcs-requires
+    write-arcs-requires-2
     (λ c. search needs)
     returns)
