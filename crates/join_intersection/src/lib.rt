@@ -25,6 +25,7 @@ use join_product_arcs::beside::Beside;
 use join_product_arcs::beside::write_empty_moves;
 use join_product_arcs::joint::write_joint_arcs;
 use join_product_count::count_arcs;
+use join_product_count::match_letters;
 
 mod finals;
 
@@ -43,7 +44,7 @@ fn product_counts(a: Counts, b: Counts, letters: usize, arcs: usize) -> Counts
 }
 
 // The arcs of the intersection: joint arcs, the empty moves of the first, then those of the second.
-// Cost: for each arc of the first, the letters and the arcs of the second; and the bytes written.
+// Cost: for each arc of the first, the arcs of the second; and the bytes written.
 fn write_product_arcs(
     out: &mut [u8],
     at: usize,
@@ -53,8 +54,9 @@ fn write_product_arcs(
     b: Counts,
     second: &[u8],
     two: &[u8],
+    matched: &[u8],
 ) -> usize
-    requires { ⌜ Matched a b (now first) (now second) (now one) (now two) × (a .states * b .states ≤ 256) × (at + length (arcsBytes (productArcs (now one) (now two) (now first) (now second))) ≤ length (now out)) ⌝ }
+    requires { ⌜ Matched a b (now first) (now second) (now one) (now two) (now matched) × (a .states * b .states ≤ 256) × (at + length (arcsBytes (productArcs (now one) (now two) (now first) (now second))) ≤ length (now out)) ⌝ }
     ensures { λ r. ⌜ Appended at (arcsBytes (productArcs (now (one .entry)) (now (two .entry)) (now (first .entry)) (now (second .entry)))) (now (out .entry)) (now (out .exit)) r ⌝ }
 {
     let shift = a.registers - 1;
@@ -70,7 +72,7 @@ fn write_product_arcs(
         step: b.states,
         shift,
     };
-    let lefts = write_joint_arcs(out, at, a, first, one, b, second, two, shift);
+    let lefts = write_joint_arcs(out, at, a, first, one, b, second, two, matched, shift);
     let rights = write_empty_moves(out, lefts, a, first, left);
     write_empty_moves(out, rights, b, second, right)
 }
@@ -85,20 +87,54 @@ fn write_product(
     b: Counts,
     second: &[u8],
     two: &[u8],
+    matched: &[u8],
     letters: &[u8],
 ) -> usize
-    requires { ⌜ Matched a b (now first) (now second) (now one) (now two) × (sizes (intersection (automatonOver (now one) (now letters) (now first)) (automatonOver (now two) (now letters) (now second))) ≡ c) × Fits (intersection (automatonOver (now one) (now letters) (now first)) (automatonOver (now two) (now letters) (now second))) × (length (bytesOf (intersection (automatonOver (now one) (now letters) (now first)) (automatonOver (now two) (now letters) (now second)))) ≤ length (now out)) ⌝ }
+    requires { ⌜ Matched a b (now first) (now second) (now one) (now two) (now matched) × (sizes (intersection (automatonOver (now one) (now letters) (now first)) (automatonOver (now two) (now letters) (now second))) ≡ c) × Fits (intersection (automatonOver (now one) (now letters) (now first)) (automatonOver (now two) (now letters) (now second))) × (length (bytesOf (intersection (automatonOver (now one) (now letters) (now first)) (automatonOver (now two) (now letters) (now second)))) ≤ length (now out)) ⌝ }
     ensures { λ r. ⌜ Appended 0 (bytesOf (intersection (automatonOver (now (one .entry)) (now (letters .entry)) (now (first .entry))) (automatonOver (now (two .entry)) (now (letters .entry)) (now (second .entry))))) (now (out .entry)) (now (out .exit)) r ⌝ }
 {
     let flags = write_front(out, c, letters);
     let arcs = write_both_flags(out, flags, a, first, b, second);
-    write_product_arcs(out, arcs, a, first, one, b, second, two)
+    write_product_arcs(out, arcs, a, first, one, b, second, two, matched)
+}
+
+// The intersection of two valid files over these letters, of which those of the first are matched by a table. Cost: where states and registers alone are beyond a limit, constant; else for each arc of
+// the first the arcs of the second to count them, and as many again and the bytes written to write it.
+fn product_by(
+    out: &mut [u8],
+    a: Counts,
+    first: &[u8],
+    one: &[u8],
+    b: Counts,
+    second: &[u8],
+    two: &[u8],
+    matched: &[u8],
+    letters: &[u8],
+) -> Written
+    requires { ⌜ Lettered a b (now first) (now second) (now one) (now two) (now letters) × Matched a b (now first) (now second) (now one) (now two) (now matched) ⌝ }
+    ensures answer { λ r. ⌜ r ≡ writtenOf (intersection (automatonOver (now (one .entry)) (now (letters .entry)) (now (first .entry))) (automatonOver (now (two .entry)) (now (letters .entry)) (now (second .entry)))) (length (now (out .entry))) ⌝ }
+    ensures output { λ r. ⌜ now (out .exit) ≡ outputOf r (bytesOf (intersection (automatonOver (now (one .entry)) (now (letters .entry)) (now (first .entry))) (automatonOver (now (two .entry)) (now (letters .entry)) (now (second .entry))))) (now (out .entry)) ⌝ }
+{
+    if is_beyond(product_counts(a, b, letters.len(), 0)) {
+        return Written::Refused(11, 0);
+    }
+    let t = count_arcs(a, first, one, b, second, two, matched);
+    if t.many {
+        return Written::Refused(11, 0);
+    }
+    let c = product_counts(a, b, letters.len(), t.arcs);
+    let size = 12 + c.letters + c.states + t.size;
+    let answer = decide(c, size, out.len());
+    let Written::Bytes(_) = answer else {
+        return answer;
+    };
+    write_product(out, c, a, first, one, b, second, two, matched, letters);
+    answer
 }
 
 // The intersection of two valid files over these letters, by the new numbers of each file's own. Answers its length, or 11, beyond
 // a limit on states, registers, arcs or operations of an arc, or 25, the output shorter than the result; a refusal leaves the output
-// as it was. Cost: where states and registers alone are beyond a limit, constant; else for each arc of the first the letters and the
-// arcs of the second to count them, and as many again and the bytes written to write it.
+// as it was. Cost: that of `product_by`; and the pairs of letters, where numbers change.
 pub fn product(
     out: &mut [u8],
     a: Counts,
@@ -113,19 +149,10 @@ pub fn product(
     ensures answer { λ r. ⌜ r ≡ writtenOf (intersection (automatonOver (now (one .entry)) (now (letters .entry)) (now (first .entry))) (automatonOver (now (two .entry)) (now (letters .entry)) (now (second .entry)))) (length (now (out .entry))) ⌝ }
     ensures output { λ r. ⌜ now (out .exit) ≡ outputOf r (bytesOf (intersection (automatonOver (now (one .entry)) (now (letters .entry)) (now (first .entry))) (automatonOver (now (two .entry)) (now (letters .entry)) (now (second .entry))))) (now (out .entry)) ⌝ }
 {
-    if is_beyond(product_counts(a, b, letters.len(), 0)) {
-        return Written::Refused(11, 0);
+    if one.len() + two.len() == 0 {
+        return product_by(out, a, first, one, b, second, two, &first[0..0], letters);
     }
-    let t = count_arcs(a, first, one, b, second, two);
-    if t.many {
-        return Written::Refused(11, 0);
-    }
-    let c = product_counts(a, b, letters.len(), t.arcs);
-    let size = 12 + c.letters + c.states + t.size;
-    let answer = decide(c, size, out.len());
-    let Written::Bytes(_) = answer else {
-        return answer;
-    };
-    write_product(out, c, a, first, one, b, second, two, letters);
-    answer
+    let m = a.letters;
+    let matched = match_letters(a, one, two);
+    product_by(out, a, first, one, b, second, two, &matched[0..m], letters)
 }

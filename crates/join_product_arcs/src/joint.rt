@@ -8,7 +8,7 @@ ghost use Rattle.file_fields.specs.Parts.{arcSize};
 ghost use Rattle.format.specs.Decoding.{arcOf, automatonOf};
 ghost use Rattle.format.specs.Encoding.{arcBytes, arcsBytes};
 ghost use Rattle.file_writing.specs.Placing.{Appended};
-ghost use Rattle.join_product_count.specs.ProductArcs.{Findable, Matched, SmallLetter, jointWith};
+ghost use Rattle.join_product_count.specs.ProductArcs.{Findable, LetterMatched, Matched, jointWith};
 ghost use Rattle.join_product_arcs.specs.JointArcs.{Writable, lettered};
 use file_arc_writing::Fields;
 use file_arc_writing::write_joint_arc;
@@ -17,7 +17,7 @@ use format::Counts;
 use format::fields::arc_size;
 use format::fields::byte;
 use format::fields::first_arc;
-use join_product_count::own_letter;
+use join_product_count::matched_letter;
 
 // The arc at a place of the first file, with this letter, and the one at a place of the second, which has n states, and whose
 // registers from 1 up move by k. Cost: the operations of both.
@@ -47,8 +47,8 @@ fn write_joint(
     write_joint_arc(out, at, f, &first[left..], p, &second[right..], q, k)
 }
 
-// The arc at a place of the first file with each arc of the second of its letter, which is looked up once by its new number; an
-// empty move has none. Cost: the letters and the arcs of the second, and the bytes written.
+// The arc at a place of the first file with each arc of the second of its letter, whose number there is in the table; an empty move has
+// none. Cost: the arcs of the second, and the bytes written.
 fn write_joint_with(
     out: &mut [u8],
     at: usize,
@@ -58,9 +58,10 @@ fn write_joint_with(
     b: Counts,
     second: &[u8],
     two: &[u8],
+    matched: &[u8],
     k: usize,
 ) -> usize
-    requires { ⌜ (from + arcSize (drop from (now first)) ≤ length (now first)) × SmallLetter (now one) (arcOf (drop from (now first))) × Findable b (now second) (now two) × (arcOf (drop from (now first)) .source * b .states + b .states ≤ 256) × (arcOf (drop from (now first)) .target * b .states + b .states ≤ 256) × (length (arcOf (drop from (now first)) .ops) ≤ 8) × (k ≤ 8) × (at + length (arcsBytes (jointWith (b .states) k (map (reletteredArc (now two)) (automatonOf (now second) .arcs)) (reletteredArc (now one) (arcOf (drop from (now first)))))) ≤ length (now out)) ⌝ }
+    requires { ⌜ (from + arcSize (drop from (now first)) ≤ length (now first)) × LetterMatched (now one) (now two) (now matched) (arcOf (drop from (now first))) × Findable b (now second) (now two) × (arcOf (drop from (now first)) .source * b .states + b .states ≤ 256) × (arcOf (drop from (now first)) .target * b .states + b .states ≤ 256) × (length (arcOf (drop from (now first)) .ops) ≤ 8) × (k ≤ 8) × (at + length (arcsBytes (jointWith (b .states) k (map (reletteredArc (now two)) (automatonOf (now second) .arcs)) (reletteredArc (now one) (arcOf (drop from (now first)))))) ≤ length (now out)) ⌝ }
     ensures { λ r. ⌜ Appended at (arcsBytes (jointWith (b .states) k (map (reletteredArc (now (two .entry))) (automatonOf (now (second .entry)) .arcs)) (reletteredArc (now (one .entry)) (arcOf (drop from (now (first .entry))))))) (now (out .entry)) (now (out .exit)) r ⌝ }
 {
     let letter = byte(first, from + 1);
@@ -68,7 +69,7 @@ fn write_joint_with(
         return at;
     }
     let new = new_letter(one, letter);
-    let own = own_letter(two, new);
+    let own = matched_letter(matched, letter) as usize;
     let mut to = at;
     let mut other = first_arc(b);
     let mut i: usize = 0;
@@ -82,8 +83,8 @@ fn write_joint_with(
     to
 }
 
-// All joint arcs of two files, by the new numbers of their letters. Cost: for each arc of the first, the letters and the arcs of the
-// second; and the bytes written.
+// All joint arcs of two files, by the new numbers of their letters. Cost: for each arc of the first, the arcs of the second; and the bytes
+// written.
 pub fn write_joint_arcs(
     out: &mut [u8],
     at: usize,
@@ -93,16 +94,17 @@ pub fn write_joint_arcs(
     b: Counts,
     second: &[u8],
     two: &[u8],
+    matched: &[u8],
     k: usize,
 ) -> usize
-    requires { ⌜ Matched a b (now first) (now second) (now one) (now two) × (a .states * b .states ≤ 256) × (k ≤ 8) × (at + length (arcsBytes (flatMap (jointWith (b .states) k (map (reletteredArc (now two)) (automatonOf (now second) .arcs))) (map (reletteredArc (now one)) (automatonOf (now first) .arcs)))) ≤ length (now out)) ⌝ }
+    requires { ⌜ Matched a b (now first) (now second) (now one) (now two) (now matched) × (a .states * b .states ≤ 256) × (k ≤ 8) × (at + length (arcsBytes (flatMap (jointWith (b .states) k (map (reletteredArc (now two)) (automatonOf (now second) .arcs))) (map (reletteredArc (now one)) (automatonOf (now first) .arcs)))) ≤ length (now out)) ⌝ }
     ensures { λ r. ⌜ Appended at (arcsBytes (flatMap (jointWith (b .states) k (map (reletteredArc (now (two .entry))) (automatonOf (now (second .entry)) .arcs))) (map (reletteredArc (now (one .entry))) (automatonOf (now (first .entry)) .arcs)))) (now (out .entry)) (now (out .exit)) r ⌝ }
 {
     let mut to = at;
     let mut from = first_arc(a);
     let mut i: usize = 0;
     while i < a.arcs {
-        to = write_joint_with(out, to, first, one, from, b, second, two, k);
+        to = write_joint_with(out, to, first, one, from, b, second, two, matched, k);
         from += arc_size(first, from);
         i += 1;
     }

@@ -75,6 +75,12 @@ unfolding ownLetter
 own-unchanged [] n h = refl
 own-unchanged (x ∷ new) n h = absurd (omega arith)
 
+-- it is a byte where the new number is one
+pub own-byte : (new : List ℕ) (n : ℕ) → length new ≤ 64 → n < 256 → ownLetter new n < 256
+unfolding ownLetter
+own-byte [] n h k = k
+own-byte (x ∷ new) n h k = omega (arith, number-few n (x ∷ new))
+
 module _ {c : Counts} {file : List ℕ} where
   -- it is not the byte of an empty move
   pub own-lettered : (new : List ℕ) (n : ℕ) → Findable c file new → n < 64 → ownLetter new n ≢ 255

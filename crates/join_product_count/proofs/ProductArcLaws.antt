@@ -17,7 +17,7 @@ use Rattle.format.specs.Decoding.{arcOf, arcsOf, letterOf}
 use Rattle.file_fields.specs.Parts.{arcSize}
 use Rattle.file_laws.proofs.Laws.{ops-count}
 use Rattle.join_parts.proofs.Laws.{ArcHere, arc-at, arcs-next, arcs-none}
-use Rattle.join_product_count.specs.ProductArcs.{Findable, SmallLetter, emptyWith, jointWith, ownLetter}
+use Rattle.join_product_count.specs.ProductArcs.{Findable, LetterMatched, emptyWith, jointWith, ownLetter}
 use Rattle.join_product_count.proofs.OwnLetters.{own-back, own-found, own-lettered}
 
 -- ---- letters as bytes
@@ -116,12 +116,12 @@ pub record Sought (x : Arc) (l : ℕ) (new : List ℕ) (u : ℕ) : Type 0 where
   pub own : u ≡ ownLetter new l
 
 -- as code finds it, from the byte v of the letter
-pub sought : (one two s : List ℕ) (from : ℕ) {v l u : ℕ} → v ≡ getD s (from + 1) 0 → v ≢ 255 → SmallLetter one (arcOf (drop from s)) → l ≡ letterBy one v → u ≡ ownLetter two l
+pub sought : (one two table s : List ℕ) (from : ℕ) {v l u : ℕ} → v ≡ getD s (from + 1) 0 → v ≢ 255 → LetterMatched one two table (arcOf (drop from s)) → l ≡ letterBy one v → u ≡ letterBy table v
     → Sought (reletteredArc one (arcOf (drop from s))) l two u
 unfolding letterOf
-sought one two s from {v} e h n p q =
+sought one two table s from {v} e h n p q =
     let t : arcOf (drop from s) .letter ≡ some v = letter-at s from ∙ rw (← e, ne-eqb v 255 h) in
-    record { letter = rw (t, p); small = rw p (n v t); own = q }
+    record { letter = rw (t, p); small = rw p (n v t .0); own = q ∙ n v t .1 ∙ ap (ownLetter two) (sym p) }
 
 -- such an arc with those that are left
 module _ (n k : ℕ) {x : Arc} {l u : ℕ} {c : Counts} (s new : List ℕ) (f : Findable c s new) (w : Sought x l new u) (m i from : ℕ) where

@@ -2,10 +2,11 @@
 use mathlib.Core.Path.{_≡_, _∙_, ap, refl, sym}
 use mathlib.Core.Bool.{Bool, false, _||_, or-assoc, or-false}
 use mathlib.Core.List.{List, [], _∷_, _++_, map}
-use Prim.Native.Nat.{ℕ, suc, zero, _+_, _*_, _≤_}
+use Prim.Native.Nat.{ℕ, suc, zero, max, _+_, _*_, _<_, _≤_}
+use native.Mathlib.Decide.{decLt}
 use native.Mathlib.Nat.{suc-mul, zero-mul}
 use native.Mathlib.Omega.{arith}
-use borrow.Author.Tests.{le-ltb}
+use borrow.Author.Tests.{le-ltb, lt-ltb}
 use lib.Dec.{ltb}
 use lib.ListN.{length, length-append}
 use Rattle.automata.specs.Lists.{any, countFrom}
@@ -67,6 +68,24 @@ one-tallied x p e = record {
   size = omega (arith, length-append (arcBytes x) [], arc-length x);
   many = rw e (sym (or-false (ltb 8 p)));
 }
+
+-- so many arcs with so many operations together, and so many at most
+abbrev pub counted : (arcs ops most : ℕ) → Tally
+counted arcs ops most = record { arcs = arcs; size = 4 * arcs + 2 * ops; many = ltb 8 most }
+
+many-larger : (m p : ℕ) → ltb 8 (max m p) ≡ (ltb 8 m || ltb 8 p)
+many-larger m p = go (decLt 8 m) (decLt 8 p)
+  where
+    go : Dec (8 < m) → Dec (8 < p) → ltb 8 (max m p) ≡ (ltb 8 m || ltb 8 p)
+    go (yes h) q = rw (lt-ltb 8 m h, lt-ltb 8 (max m p) (omega arith))
+    go (no h) (yes k) = rw (le-ltb 8 m (omega (arith, h)), lt-ltb 8 p k, lt-ltb 8 (max m p) (omega arith))
+    go (no h) (no k) = rw (le-ltb 8 m (omega (arith, h)), le-ltb 8 p (omega (arith, k)), le-ltb 8 (max m p) (omega (arith, h, k)))
+
+-- one of them is counted
+pub uncounted-one : (arcs ops most : ℕ) (x : Arc) (p : ℕ) (rest : List Arc) {all : List Arc} → length (x .ops) ≡ p → Uncounted (counted arcs ops most) ((x ∷ []) ++ rest) all → Uncounted (counted (arcs + 1) (ops + p) (max most p)) rest all
+uncounted-one arcs ops most x p rest e c =
+    let u = uncounted-less (x ∷ []) rest (one-tallied x p e) c in
+    record { arcs = u .arcs; size = omega (arith, u .size); many = rw (many-larger most p) (u .many) }
 
 -- as many as states, each with p operations
 pub all-tallied : (g : ℕ → Arc) (p : ℕ) → ((i : ℕ) → length (g i .ops) ≡ p) → p ≤ 8 → (j n : ℕ) → Tallied (record { arcs = n; size = n * (4 + 2 * p); many = false }) (map g (countFrom j n))

@@ -56,12 +56,16 @@ pub record Findable (c : Counts) (file new : List ℕ) : Type 0 where
   pub listed : Numbers (c .letters) new
   pub apart : (l m : ℕ) → l < c .letters → m < c .letters → letterBy new l ≡ letterBy new m → l ≡ m
 
--- the new number of an arc's letter is below 64, as that of any letter
-abbrev pub SmallLetter : (new : List ℕ) → Arc → Type 0
-SmallLetter new x = (l : ℕ) → x .letter ≡ some l → letterBy new l < 64
+-- a table of letters: entry l is the second file's own number of the first's letter l; the empty table says that each keeps its number
+abbrev pub Matches : (one two table : List ℕ) → ℕ → Type 0
+Matches one two table l = letterBy table l ≡ ownLetter two (letterBy one l)
 
--- two valid files: each letter on an arc of the first has a new number, by which it can be found in the second
-pub record Matched (a b : Counts) (s t one two : List ℕ) : Type 0 where
+-- the letter of an arc is in the table, and its new number is below 64, as that of any letter
+abbrev pub LetterMatched : (one two table : List ℕ) → Arc → Type 0
+LetterMatched one two table x = (l : ℕ) → x .letter ≡ some l → (letterBy one l < 64) × Matches one two table l
+
+-- two valid files: each letter on an arc of the first has a new number, and stands in the table for the letter of the second that has it
+pub record Matched (a b : Counts) (s t one two table : List ℕ) : Type 0 where
   pub first : readingOf s ≡ Valid a
   pub second : Findable b t two
-  pub small : Each (SmallLetter one) (automatonOf s .arcs)
+  pub letters : Each (LetterMatched one two table) (automatonOf s .arcs)

@@ -58,13 +58,13 @@ pairs s =
 
 write-front-requires : tie.Need-write-front-requires
 write-front-requires c κs =
-    let s = c .before .before .before .before .before .before .before in
+    let s = c .before .before .before .before .before .before .before .before in
     (subst (λ (d : Counts). Ranges d) (s .pre .1) (s .pre .2 .ranges), omega (arith, room s))
 
 write-both-flags-requires : tie.Need-write-both-flags-requires
 write-both-flags-requires c κs =
     let front = c .before .before .before in
-    let s = front .before .before .before .before .before .before .before .before in
+    let s = front .before .before .before .before .before .before .before .before .before in
     let v = s .pre .0 in
     (v .first, v .second .valid, omega (arith, room s, front-ends (s .args .c) _ (front .write-front .ensures)))
 
@@ -72,7 +72,7 @@ write-product-arcs-requires : tie.Need-write-product-arcs-requires
 write-product-arcs-requires c κs =
     let flags = c .before .before .before in
     let front = flags .before .before .before .before in
-    let s = front .before .before .before .before .before .before .before .before in
+    let s = front .before .before .before .before .before .before .before .before .before in
     (s .pre .0, omega (arith, s .pre .2 .ranges .states, pairs s), omega (arith, room s, flag-count s, front-ends (s .args .c) _ (front .write-front .ensures), appended-ends (flags .write-both-flags .ensures)))
 
 returns : tie.Need-returns
@@ -80,7 +80,7 @@ returns c =
     let arcs = c .before .before in
     let flags = arcs .before .before .before .before in
     let front = flags .before .before .before .before in
-    let s = front .before .before .before .before .before .before .before .before in
+    let s = front .before .before .before .before .before .before .before .before .before in
     rw (parts s) (written-then (front .write-front .ensures) (written-then (flags .write-both-flags .ensures) (arcs .write-product-arcs .ensures)))
 
 pub write-product-spec : {M : Type 1} → statement M

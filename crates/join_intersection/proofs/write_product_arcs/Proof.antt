@@ -39,18 +39,18 @@ parts s =
     ∙ rw (lefts, rights)
 
 sub-shift : tie.Need-sub-shift
-sub-shift c = omega (arith, valid-ranges _ _ (c .before .before .before .before .before .before .pre .0 .first) .some-register)
+sub-shift c = omega (arith, valid-ranges _ _ (c .before .before .before .before .before .before .before .pre .0 .first) .some-register)
 
 write-joint-arcs-requires : tie.Need-write-joint-arcs-requires
 write-joint-arcs-requires c κs =
-    let s = c .before .before .before .before .before .before .before in
+    let s = c .before .before .before .before .before .before .before .before in
     let v = s .pre .0 in
     (v, s .pre .1, omega (arith, valid-ranges _ _ (v .first) .registers), omega (arith, simp length-append at (rw (parts s) at (s .pre .2))))
 
 write-empty-moves-requires : tie.Need-write-empty-moves-requires
 write-empty-moves-requires c κs =
     let joint = c .before .before .before in
-    let s = joint .before .before .before .before .before .before .before .before in
+    let s = joint .before .before .before .before .before .before .before .before .before in
     let a = s .args in (
       s .pre .0 .first,
       λ p j h k. omega (arith, pair-below p (a .a .states) j (a .b .states) h k, s .pre .1),
@@ -62,7 +62,7 @@ write-empty-moves-requires-2 : tie.Need-write-empty-moves-requires-2
 write-empty-moves-requires-2 c κs =
     let left = c .before .before .before in
     let joint = left .before .before .before .before in
-    let s = joint .before .before .before .before .before .before .before .before in
+    let s = joint .before .before .before .before .before .before .before .before .before in
     let a = s .args in (
       s .pre .0 .second .valid,
       λ p i h k. omega (arith, pair-below i (a .a .states) p (a .b .states) k h, s .pre .1),
@@ -75,7 +75,7 @@ returns c =
     let right = c .before .before in
     let left = right .before .before .before .before in
     let joint = left .before .before .before .before in
-    let s = joint .before .before .before .before .before .before .before .before in
+    let s = joint .before .before .before .before .before .before .before .before .before in
     rw (parts s) (written-then (joint .write-joint-arcs .ensures) (written-then (left .write-empty-moves .ensures) (right .write-empty-moves2 .ensures)))
 
 pub write-product-arcs-spec : {M : Type 1} → statement M

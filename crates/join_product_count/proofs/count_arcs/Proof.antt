@@ -18,12 +18,12 @@ use Rattle.join_product_count.proofs.count_arcs.Tie as tie
 
 count-empty-requires : tie.Need-count-empty-requires
 count-empty-requires c κs =
-    let m = c .before .before .before .before .before .pre in
+    let m = c .before .before .before .before .before .before .pre in
     (m .first, valid-ranges _ _ (m .second .valid) .states)
 
 count-empty-requires-2 : tie.Need-count-empty-requires-2
 count-empty-requires-2 c κs =
-    let m = c .before .before .before .before .before .before .pre in
+    let m = c .before .before .before .before .before .before .before .pre in
     (m .second .valid, valid-ranges _ _ (m .first) .states)
 
 returns : tie.Need-returns
@@ -31,7 +31,7 @@ returns c =
     let right = c .before .before .before .before .before .before .before .before .before in
     let left = right .before in
     let joint = left .before in
-    let s = joint .before .before .before .before .before in
+    let s = joint .before .before .before .before .before .before in
     let a = s .args in
     let one = a .one .now in
     let two = a .two .now in

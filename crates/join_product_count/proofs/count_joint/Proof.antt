@@ -1,40 +1,39 @@
 -- `join_product_count::count_joint` meets its contract.
-use mathlib.Core.Path.{_≡_, _∙_, ap₂, sym}
+use mathlib.Core.Path.{_≡_, _∙_, ap₂, refl, sym}
 use mathlib.Core.Logic.{⊎-elim}
-use mathlib.Core.List.{_∷_, [], map}
+use mathlib.Core.List.{map}
 use Prim.Native.Nat.{ℕ, _*_, _+_, _-_, _<_, _≤_}
 use native.Mathlib.Omega.{arith}
 use borrow.Author.Needs.{needs}
 use lib.ListN.{drop, length}
 use Rattle.automata.specs.Joins.{arcBoth}
-use Rattle.relettering.specs.Relettering.{reletteredArc}
+use Rattle.relettering.specs.Relettering.{letterBy, reletteredArc}
 use Rattle.file_fields.specs.Parts.{firstArc}
 use Rattle.format.specs.Decoding.{arcOf, arcsOf, automatonOf}
 use Rattle.file_laws.proofs.Laws.{valid-arcs, valid-ranges}
 use Rattle.join_parts.proofs.Laws.{ArcHere, Walk, walk-here, walk-on, walk-start}
 use Rattle.join_product_count.specs.ProductArcs.{jointWith}
-use Rattle.join_product_count.proofs.Uncounted.{Uncounted, uncounted-all, uncounted-less, uncounted-none, none-tallied, one-tallied}
+use Rattle.join_product_count.proofs.Uncounted.{Uncounted, counted, none-tallied, uncounted-all, uncounted-none, uncounted-one}
 use Rattle.join_product_count.proofs.ProductArcLaws.{Sought, joint-next, joint-none, joint-nothing, joint-ops, joint-skip, letter-at, ops-at, sought}
 use Rattle.join_product_count.proofs.count_joint.Statement.{statement}
 use Rattle.join_product_count.proofs.count_joint.Tie as tie
 
 abbrev Inv-loop : tie.InvT-loop
-Inv-loop first one from b second two letter p arcs₀ size₀ many₀ own at₀ i₀ arcs size many at i = (i ≤ b .arcs) × Walk b second (b .arcs - i) at × (arcs ≤ i) × (size ≤ 1024 * i) × ((n k : ℕ) → Uncounted (record { arcs = arcs; size = size; many = many }) (jointWith n k (map (reletteredArc two) (arcsOf (b .arcs - i) (drop at second))) (reletteredArc one (arcOf (drop from first)))) (jointWith n k (map (reletteredArc two) (arcsOf (b .arcs) (drop (firstArc b) second))) (reletteredArc one (arcOf (drop from first)))))
+Inv-loop first one from b second two matched letter p own arcs₀ sum₀ most₀ at₀ i₀ arcs sum most at i = (i ≤ b .arcs) × Walk b second (b .arcs - i) at × (arcs ≤ i) × (sum ≤ 510 * i) × ((n k : ℕ) → Uncounted (counted arcs sum most) (jointWith n k (map (reletteredArc two) (arcsOf (b .arcs - i) (drop at second))) (reletteredArc one (arcOf (drop from first)))) (jointWith n k (map (reletteredArc two) (arcsOf (b .arcs) (drop (firstArc b) second))) (reletteredArc one (arcOf (drop from first)))))
 
 abbrev μ-loop : tie.MeasureT-loop
-μ-loop first one from b second two letter p arcs₀ size₀ many₀ own at₀ i₀ arcs size many at i = b .arcs - i
+μ-loop first one from b second two matched letter p own arcs₀ sum₀ most₀ at₀ i₀ arcs sum most at i = b .arcs - i
 
 -- what is known before the loop: the letter that is looked for among the second's arcs
-abbrev start : tie.After-own-letter Inv-loop μ-loop → tie.Start Inv-loop μ-loop
+abbrev start : tie.After-matched-letter Inv-loop μ-loop → tie.Start Inv-loop μ-loop
 start c = c .before .before .before .before .before .before .before .before .before
 
-wanted : (c : tie.After-own-letter Inv-loop μ-loop) → let a = start c .args in Sought (reletteredArc (a .one .now) (arcOf (drop (a .from) (a .first .now)))) (c .before .new-letter .result) (a .two .now) (c .own-letter .result)
+wanted : (c : tie.After-matched-letter Inv-loop μ-loop) → let a = start c .args in Sought (reletteredArc (a .one .now) (arcOf (drop (a .from) (a .first .now)))) (letterBy (a .one .now) (c .before .before .before .byte .result)) (a .two .now) (c .matched-letter .result)
 wanted c =
-    let letter = c .before in
-    let lettered = letter .before in
+    let lettered = c .before in
     let s = start c in
     let a = s .args in
-    sought (a .one .now) (a .two .now) (a .first .now) (a .from) (lettered .before .before .byte .ensures .0) (lettered .if1 .left) (s .pre .1) (letter .new-letter .ensures .0) (c .own-letter .ensures)
+    sought (a .one .now) (a .two .now) (a .matched .now) (a .first .now) (a .from) (lettered .before .before .byte .ensures .0) (lettered .if1 .left) (s .pre .1) refl (c .matched-letter .ensures)
 
 -- the arc of this turn
 here : (c : tie.Then2 Inv-loop μ-loop) → let l = c .before .before in let a = start (l .before .before) .args in ArcHere (a .b) (a .second .now) (l .loop .at)
@@ -44,23 +43,26 @@ here c =
     walk-here (a .b) (a .second .now) (a .b .arcs) (l .loop .i) (l .loop .at) (c .if2 .taken) (l .loop .inv .1)
 
 add-byte : tie.Need-add-byte Inv-loop μ-loop
-add-byte c = omega (arith, c .before .before .before .before .pre .0)
+add-byte c = omega (arith, c .before .before .before .before .before .pre .0)
 
 byte-requires : tie.Need-byte-requires Inv-loop μ-loop
-byte-requires c κs = omega (arith, c .before .before .before .before .pre .0)
+byte-requires c κs = omega (arith, c .before .before .before .before .before .pre .0)
 
 add-byte-2 : tie.Need-add-byte-2 Inv-loop μ-loop
-add-byte-2 c = omega (arith, c .before .before .before .before .before .pre .0)
+add-byte-2 c = omega (arith, c .before .before .before .before .before .before .pre .0)
 
 byte-requires-2 : tie.Need-byte-requires-2 Inv-loop μ-loop
-byte-requires-2 c κs = omega (arith, c .before .before .before .before .before .pre .0)
+byte-requires-2 c κs = omega (arith, c .before .before .before .before .before .before .pre .0)
 
 returns : tie.Need-returns Inv-loop μ-loop
 returns c =
     let letter = c .before .before .byte in
-    let a = c .before .before .before .before .before .before .before .args in
+    let a = c .before .before .before .before .before .before .before .before .args in
     let x = arcOf (drop (a .from) (a .first .now)) in
     (λ n k. rw (joint-nothing n k (a .one .now) (map (reletteredArc (a .two .now)) (automatonOf (a .second .now) .arcs)) x _ (letter-at (a .first .now) (a .from)) (sym (letter .ensures .0) ∙ c .if1 .taken)) none-tallied, omega arith, omega arith)
+
+matched-letter-requires : tie.Need-matched-letter-requires Inv-loop μ-loop
+matched-letter-requires c κs = c .before .before .byte .ensures .1
 
 first-arc-requires : tie.Need-first-arc-requires Inv-loop μ-loop
 first-arc-requires c κs =
@@ -81,7 +83,7 @@ byte-requires-3 : tie.Need-byte-requires-3 Inv-loop μ-loop
 byte-requires-3 c κs = omega (arith, here c .whole)
 
 add-ops : tie.Need-add-ops Inv-loop μ-loop
-add-ops c = omega (arith, c .byte3 .ensures .1, c .before .before .before .before .before .before .before .before .byte2 .ensures .1)
+add-ops c = omega (arith, c .byte3 .ensures .1, c .before .before .before .before .before .before .before .byte2 .ensures .1)
 
 add-byte-4 : tie.Need-add-byte-4 Inv-loop μ-loop
 add-byte-4 c = omega (arith, here (c .before) .whole)
@@ -91,23 +93,17 @@ byte-requires-4 c κs = omega (arith, here (c .before) .whole)
 
 -- the numbers of this turn are small
 bounds : (c : tie.Then3 Inv-loop μ-loop) → let ops = c .before .before in let l = ops .before .before .before in
-    (ops .byte3 .result < 256) × (l .before .before .before .before .before .byte2 .result < 256) × (l .loop .arcs ≤ l .loop .i) × (l .loop .size ≤ 1024 * l .loop .i) × (l .loop .i < 2048)
+    (ops .byte3 .result < 256) × (l .before .before .before .before .byte2 .result < 256) × (l .loop .arcs ≤ l .loop .i) × (l .loop .sum ≤ 510 * l .loop .i) × (l .loop .i < 2048)
 bounds c =
     let ops = c .before .before in
     let l = ops .before .before .before in
-    (ops .byte3 .ensures .1, l .before .before .before .before .before .byte2 .ensures .1, l .loop .inv .2, l .loop .inv .3, omega (arith, ops .before .if2 .taken, valid-ranges _ _ (start (l .before .before) .pre .2 .valid) .arcs))
+    (ops .byte3 .ensures .1, l .before .before .before .before .byte2 .ensures .1, l .loop .inv .2, l .loop .inv .3, omega (arith, ops .before .if2 .taken, valid-ranges _ _ (start (l .before .before) .pre .2 .valid) .arcs))
 
 add-arcs : tie.Need-add-arcs Inv-loop μ-loop
 add-arcs c = omega (arith, bounds c)
 
-mul-size : tie.Need-mul-size Inv-loop μ-loop
-mul-size c = omega (arith, bounds c)
-
-add-size : tie.Need-add-size Inv-loop μ-loop
-add-size c = omega (arith, bounds c)
-
-add-size-2 : tie.Need-add-size-2 Inv-loop μ-loop
-add-size-2 c = omega (arith, bounds c)
+add-sum : tie.Need-add-sum Inv-loop μ-loop
+add-sum c = omega (arith, bounds c)
 
 arc-size-requires : tie.Need-arc-size-requires Inv-loop μ-loop
 arc-size-requires c κs = omega (arith, here (c .before .before .before) .whole)
@@ -122,7 +118,7 @@ loop-again c =
     let t = ops .before in
     let l = t .before .before in
     let own = l .before .before in
-    let p = own .before .before .before .byte2 in
+    let p = own .before .before .byte2 in
     let s = start own in
     let a = s .args in
     let first = a .first .now in
@@ -139,9 +135,9 @@ loop-again c =
     let q : (n k : ℕ) → length (arcBoth n k x y .ops) ≡ p .result + ops .byte3 .result = λ n k. joint-ops n k x y ∙ ap₂ (λ (u v : ℕ). u + v) (ops-at first (a .from) ∙ sym (p .ensures .0)) (ops-at second (l .loop .at) ∙ sym (ops .byte3 .ensures .0)) in (
       omega arith,
       rw (c .arc-size .ensures .0) on,
-      omega (arith, w .1),
-      omega (arith, w .2, b),
-      λ n k. rw (w .1, w .2, w .3, c .arc-size .ensures .0) (uncounted-less (arcBoth n k x y ∷ []) _ (one-tallied (arcBoth n k x y) _ (q n k)) (rw (joint-next n k second two (s .pre .2) (wanted own) m i (l .loop .at) (t .if2 .taken) (here t) (w .0 .taken ∙ test .byte4 .ensures .0)) at (l .loop .inv .4 n k))),
+      omega (arith, w .2),
+      omega (arith, w .3, b),
+      λ n k. rw (w .2, w .3, w .4 ∙ w .1 .ensures, c .arc-size .ensures .0) (uncounted-one (l .loop .arcs) (l .loop .sum) (l .loop .most) (arcBoth n k x y) _ _ (q n k) (rw (joint-next n k second two (s .pre .2) (wanted own) m i (l .loop .at) (t .if2 .taken) (here t) (w .0 .taken ∙ test .byte4 .ensures .0)) at (l .loop .inv .4 n k))),
     ))
     (λ w. (
       omega arith,
@@ -152,6 +148,13 @@ loop-again c =
     ))
     (c .before .if3 .came)
 
+-- what is counted is small
+small : (c : tie.Else2 Inv-loop μ-loop) → let l = c .before .before in (l .loop .arcs ≤ 2048) × (l .loop .sum ≤ 1044480)
+small c =
+    let l = c .before .before in
+    let many = valid-ranges _ _ (start (l .before .before) .pre .2 .valid) .arcs in
+    (omega (arith, l .loop .inv .0, l .loop .inv .2), omega (arith, l .loop .inv .0, l .loop .inv .3))
+
 returns-2 : tie.Need-returns-2 Inv-loop μ-loop
 returns-2 c =
     let l = c .before .before in
@@ -159,8 +162,8 @@ returns-2 c =
     let a = s .args in
     let x = reletteredArc (a .one .now) (arcOf (drop (a .from) (a .first .now))) in (
       λ n k. rw (valid-arcs _ _ (s .pre .2 .valid)) (uncounted-none (rw (joint-none n k x (a .two .now) (a .b) (a .second .now) (a .b .arcs) (l .loop .i) (l .loop .at) (c .if2 .left)) at (l .loop .inv .4 n k))),
-      omega (arith, valid-ranges _ _ (s .pre .2 .valid) .arcs),
-      omega (arith, valid-ranges _ _ (s .pre .2 .valid) .arcs),
+      small c .0,
+      omega (arith, small c),
     )
 
 pub count-joint-spec : {M : Type 1} → statement M
@@ -174,8 +177,8 @@ count-joint-spec =
     add-byte-2
     byte-requires-2
     returns
-    (λ c κs. search needs)
-    (λ c κs. search needs)
+    matched-letter-requires
+    (λ c. search needs)
     first-arc-requires
     loop-holds
     add-byte-3
@@ -184,12 +187,14 @@ count-joint-spec =
     add-byte-4
     byte-requires-4
     add-arcs
-    mul-size
-    add-size
-    add-size-2
+    add-sum
+    (λ c κs. search needs)
     arc-size-requires
     add-at
     (λ c. omega arith)
     (λ c. omega arith)
     loop-again
+    (λ c. omega (arith, small c))
+    (λ c. omega (arith, small c))
+    (λ c. omega (arith, small c))
     returns-2)

@@ -10,49 +10,49 @@ use Rattle.file_fields.specs.Parts.{arcSize, firstArc}
 use Rattle.format.specs.Decoding.{arcOf, arcsOf, automatonOf}
 use Rattle.file_laws.proofs.Laws.{valid-arcs, valid-ranges}
 use Rattle.join_parts.proofs.Laws.{ArcHere, Walk, arcs-next, walk-here, walk-on, walk-start}
-use Rattle.join_product_count.specs.ProductArcs.{SmallLetter, jointWith}
+use Rattle.join_product_count.specs.ProductArcs.{LetterMatched, jointWith}
 use Rattle.join_product_count.proofs.Uncounted.{Uncounted, uncounted-all, uncounted-less, uncounted-none}
 use Rattle.join_product_count.proofs.ProductArcLaws.{flat-next, flat-none}
 use Rattle.join_product_count.proofs.count_lettered.Statement.{statement}
 use Rattle.join_product_count.proofs.count_lettered.Tie as tie
 
 abbrev Inv-loop : tie.InvT-loop
-Inv-loop a first one b second two arcs₀ size₀ many₀ from₀ i₀ arcs size many from i = (i ≤ a .arcs) × Walk a first (a .arcs - i) from × (arcs ≤ 2048 * i) × (size ≤ 2097152 * i) × Each (SmallLetter one) (arcsOf (a .arcs - i) (drop from first)) × ((n k : ℕ) → Uncounted (record { arcs = arcs; size = size; many = many }) (flatMap (jointWith n k (map (reletteredArc two) (automatonOf second .arcs))) (map (reletteredArc one) (arcsOf (a .arcs - i) (drop from first)))) (flatMap (jointWith n k (map (reletteredArc two) (automatonOf second .arcs))) (map (reletteredArc one) (arcsOf (a .arcs) (drop (firstArc a) first)))))
+Inv-loop a first one b second two matched arcs₀ size₀ many₀ from₀ i₀ arcs size many from i = (i ≤ a .arcs) × Walk a first (a .arcs - i) from × (arcs ≤ 2048 * i) × (size ≤ 2097152 * i) × Each (LetterMatched one two matched) (arcsOf (a .arcs - i) (drop from first)) × ((n k : ℕ) → Uncounted (record { arcs = arcs; size = size; many = many }) (flatMap (jointWith n k (map (reletteredArc two) (automatonOf second .arcs))) (map (reletteredArc one) (arcsOf (a .arcs - i) (drop from first)))) (flatMap (jointWith n k (map (reletteredArc two) (automatonOf second .arcs))) (map (reletteredArc one) (arcsOf (a .arcs) (drop (firstArc a) first)))))
 
 abbrev μ-loop : tie.MeasureT-loop
-μ-loop a first one b second two arcs₀ size₀ many₀ from₀ i₀ arcs size many from i = a .arcs - i
+μ-loop a first one b second two matched arcs₀ size₀ many₀ from₀ i₀ arcs size many from i = a .arcs - i
 
 abbrev start : tie.At-loop Inv-loop μ-loop → tie.Start Inv-loop μ-loop
-start l = l .before .before .before .before .before .before
+start l = l .before .before .before .before .before .before .before
 
--- the arc of this turn; its letter and those of the arcs behind it have small numbers
+-- the arc of this turn; its letter and those of the arcs behind it are matched
 here : (c : tie.Then1 Inv-loop μ-loop) → let l = c .before .before in let a = start l .args in ArcHere (a .a) (a .first .now) (l .loop .from)
 here c =
     let l = c .before .before in
     let a = start l .args in
     walk-here (a .a) (a .first .now) (a .a .arcs) (l .loop .i) (l .loop .from) (c .if1 .taken) (l .loop .inv .1)
 
-small : (c : tie.Then1 Inv-loop μ-loop) → let l = c .before .before in let a = start l .args in let arc = drop (l .loop .from) (a .first .now) in
-    SmallLetter (a .one .now) (arcOf arc) × Each (SmallLetter (a .one .now)) (arcsOf (a .a .arcs - (l .loop .i + 1)) (drop (l .loop .from + arcSize arc) (a .first .now)))
-small c =
+letters : (c : tie.Then1 Inv-loop μ-loop) → let l = c .before .before in let a = start l .args in let arc = drop (l .loop .from) (a .first .now) in
+    LetterMatched (a .one .now) (a .two .now) (a .matched .now) (arcOf arc) × Each (LetterMatched (a .one .now) (a .two .now) (a .matched .now)) (arcsOf (a .a .arcs - (l .loop .i + 1)) (drop (l .loop .from + arcSize arc) (a .first .now)))
+letters c =
     let l = c .before .before in
     let a = start l .args in
     rw (arcs-next (a .a) (a .first .now) (a .a .arcs) (l .loop .i) (l .loop .from) (c .if1 .taken)) at (l .loop .inv .4)
 
 first-arc-requires : tie.Need-first-arc-requires Inv-loop μ-loop
 first-arc-requires c κs =
-    let r = valid-ranges _ _ (c .before .before .before .before .pre .first) in
+    let r = valid-ranges _ _ (c .before .before .before .before .before .pre .first) in
     (r .letters, omega (arith, r .states))
 
 loop-holds : tie.Need-loop-holds Inv-loop μ-loop
 loop-holds c =
-    let s = c .before .before .before .before .before in
+    let s = c .before .before .before .before .before .before in
     let m = s .args .a .arcs in
     let e : m - 0 ≡ m = omega arith in
-    (omega arith, rw (e, c .first-arc .ensures) (walk-start _ _ (s .pre .first)), omega arith, omega arith, rw (e, c .first-arc .ensures) (rw (valid-arcs _ _ (s .pre .first)) at (s .pre .small)), λ n k. rw (e, c .first-arc .ensures) (uncounted-all _))
+    (omega arith, rw (e, c .first-arc .ensures) (walk-start _ _ (s .pre .first)), omega arith, omega arith, rw (e, c .first-arc .ensures) (rw (valid-arcs _ _ (s .pre .first)) at (s .pre .letters)), λ n k. rw (e, c .first-arc .ensures) (uncounted-all _))
 
 count-joint-requires : tie.Need-count-joint-requires Inv-loop μ-loop
-count-joint-requires c κs = (here c .whole, small c .0, start (c .before .before) .pre .second)
+count-joint-requires c κs = (here c .whole, letters c .0, start (c .before .before) .pre .second)
 
 add-arcs : tie.Need-add-arcs Inv-loop μ-loop
 add-arcs c =
@@ -85,7 +85,7 @@ loop-again c =
       rw (c .arc-size .ensures .0) (walk-on (a .a) first m i (l .loop .from) (t .if1 .taken) (l .loop .inv .1)),
       omega (arith, joint .count-joint .ensures .1, l .loop .inv .2),
       omega (arith, joint .count-joint .ensures .1, l .loop .inv .3),
-      rw (c .arc-size .ensures .0) (small t .1),
+      rw (c .arc-size .ensures .0) (letters t .1),
       λ n k. rw (c .arc-size .ensures .0)
           (uncounted-less (jointWith n k ys (one (arcOf (drop (l .loop .from) first)))) _ (joint .count-joint .ensures .0 n k) (rw (flat-next (jointWith n k ys) one (a .a) first m i (l .loop .from) (t .if1 .taken)) at (l .loop .inv .5 n k))),
     )

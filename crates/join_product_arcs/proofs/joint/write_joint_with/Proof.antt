@@ -23,22 +23,22 @@ use Rattle.join_product_arcs.proofs.joint.write_joint_with.Statement.{s
 use Rattle.join_product_arcs.proofs.joint.write_joint_with.Tie as tie
 
 abbrev Inv-loop : tie.InvT-loop
-Inv-loop out₀ at first one from b second two k letter new own to₀ other₀ i₀ out to other i = (i ≤ b .arcs) × Walk b second (b .arcs - i) other × Left at (arcsBytes (jointWith (b .states) k (map (reletteredArc two) (arcsOf (b .arcs) (drop (firstArc b) second))) (reletteredArc one (arcOf (drop from first))))) out₀ to (arcsBytes (jointWith (b .states) k (map (reletteredArc two) (arcsOf (b .arcs - i) (drop other second))) (reletteredArc one (arcOf (drop from first))))) out
+Inv-loop out₀ at first one from b second two matched k letter new own to₀ other₀ i₀ out to other i = (i ≤ b .arcs) × Walk b second (b .arcs - i) other × Left at (arcsBytes (jointWith (b .states) k (map (reletteredArc two) (arcsOf (b .arcs) (drop (firstArc b) second))) (reletteredArc one (arcOf (drop from first))))) out₀ to (arcsBytes (jointWith (b .states) k (map (reletteredArc two) (arcsOf (b .arcs - i) (drop other second))) (reletteredArc one (arcOf (drop from first))))) out
 
 abbrev μ-loop : tie.MeasureT-loop
-μ-loop out₀ at first one from b second two k letter new own to₀ other₀ i₀ out to other i = b .arcs - i
+μ-loop out₀ at first one from b second two matched k letter new own to₀ other₀ i₀ out to other i = b .arcs - i
 
 -- what is known before the loop: the letter that is looked for among the second's arcs
-abbrev start : tie.After-own-letter Inv-loop μ-loop → tie.Start Inv-loop μ-loop
-start c = c .before .before .before .before .before .before .before .before .before
+abbrev start : tie.After-matched-letter Inv-loop μ-loop → tie.Start Inv-loop μ-loop
+start c = c .before .before .before .before .before .before .before .before .before .before
 
-wanted : (c : tie.After-own-letter Inv-loop μ-loop) → let a = start c .args in Sought (reletteredArc (a .one .now) (arcOf (drop (a .from) (a .first .now)))) (c .before .new-letter .result) (a .two .now) (c .own-letter .result)
+wanted : (c : tie.After-matched-letter Inv-loop μ-loop) → let a = start c .args in Sought (reletteredArc (a .one .now) (arcOf (drop (a .from) (a .first .now)))) (c .before .new-letter .result) (a .two .now) (c .matched-letter .result)
 wanted c =
     let letter = c .before in
     let lettered = letter .before in
     let s = start c in
     let a = s .args in
-    sought (a .one .now) (a .two .now) (a .first .now) (a .from) (lettered .before .byte .ensures .0) (lettered .if1 .left) (s .pre .1) (letter .new-letter .ensures .0) (c .own-letter .ensures)
+    sought (a .one .now) (a .two .now) (a .matched .now) (a .first .now) (a .from) (lettered .before .byte .ensures .0) (lettered .if1 .left) (s .pre .1) (letter .new-letter .ensures .0) (c .matched-letter .ensures)
 
 -- the arc of this turn
 here : (c : tie.Then2 Inv-loop μ-loop) → let l = c .before .before in let a = start (l .before .before) .args in ArcHere (a .b) (a .second .now) (l .loop .other)
@@ -68,18 +68,21 @@ turn c =
     rw (next ∙ ap (λ (z : Arc). (z ∷ []) ++ later) (joint-lettered n (a .k) (a .one .now) two x (arcOf arc) (wanted own))) at (l .loop .inv .2)
 
 add-byte : tie.Need-add-byte Inv-loop μ-loop
-add-byte c = omega (arith, c .before .before .before .before .before .pre .0)
+add-byte c = omega (arith, c .before .before .before .before .before .before .pre .0)
 
 byte-requires : tie.Need-byte-requires Inv-loop μ-loop
-byte-requires c κs = omega (arith, c .before .before .before .before .before .pre .0)
+byte-requires c κs = omega (arith, c .before .before .before .before .before .before .pre .0)
 
 returns : tie.Need-returns Inv-loop μ-loop
 unfolding arcsBytes
 returns c =
-    let s = c .before .before .before .before .before .before .before in
+    let s = c .before .before .before .before .before .before .before .before in
     let a = s .args in
     let none = joint-nothing (a .b .states) (a .k) (a .one .now) (map (reletteredArc (a .two .now)) (automatonOf (a .second .now) .arcs)) (arcOf (drop (a .from) (a .first .now))) _ (letter-at (a .first .now) (a .from)) (sym (c .before .byte .ensures .0) ∙ c .if1 .taken) in
     rw none (left-none (left-all (rw none at (s .pre .7))))
+
+matched-letter-requires : tie.Need-matched-letter-requires Inv-loop μ-loop
+matched-letter-requires c κs = c .before .before .byte .ensures .1
 
 first-arc-requires : tie.Need-first-arc-requires Inv-loop μ-loop
 first-arc-requires c κs =
@@ -173,7 +176,8 @@ write-joint-with-spec =
     byte-requires
     returns
     (λ c κs. search needs)
-    (λ c κs. search needs)
+    matched-letter-requires
+    (λ c. search needs)
     first-arc-requires
     loop-holds
     add-byte-2
