@@ -1,17 +1,16 @@
 -- OverLetters: the automata of two valid files over the letters of both are well-formed, accept the words that they accept by their own
 -- letters, and have the same configurations live behind each word.
-use mathlib.Core.Path.{_∙_, _≡_, ap, refl, subst, sym}
+use mathlib.Core.Path.{_≡_, refl, subst, sym}
 use mathlib.Core.Logic.{_↔_, _⊎_, inl, inr, ⊎-elim}
-use mathlib.Core.List.{List, List·Memᴰ, Memᴰ·map, [], _∷_}
+use mathlib.Core.List.{List, Memᴰ·map, [], _∷_}
 use Prim.Native.Nat.{ℕ, _≤_}
 use lib.Dec.{eqb}
 use lib.ListN.{length}
 use Rattle.automata.specs.Automaton.{Automaton, Configuration, Produces, Run, SameEnds, WellFormed, start}
 use Rattle.automata.specs.Counting.{Apart}
 use Rattle.automata.specs.Letters.{key, keys}
-use Rattle.automata.specs.Pairs.{pairOf}
 use Rattle.automata.specs.Unfolding.{configurations}
-use Rattle.automata.specs.Words.{Language, Listed, LiveAfter, SameLetters, Spells, place, places}
+use Rattle.automata.specs.Words.{Language, Listed, LiveAfter, SameLetters, Spells, places}
 use Rattle.automata.proofs.Laws.{eqb-iff, iff-trans, number-at, pairing, spells-places}
 use Rattle.relettering.specs.Relettering.{relettered, withLetters}
 use Rattle.relettering.proofs.Laws.{Inside, first-inside, joined-apart, new-inside, relettered-formed, relettered-language, relettered-live, second-inside}

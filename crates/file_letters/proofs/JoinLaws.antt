@@ -1,6 +1,5 @@
 -- JoinLaws: a byte inserted as `insert` does, place after place; and the joined list with one more byte of the second.
 use mathlib.Core.Path.{_≡_, _∙_, ap, refl, sym}
-use mathlib.Core.Bool.{false, true}
 use mathlib.Core.List.{List, [], _∷_, _++_, append-assoc}
 use Prim.Native.Nat.{ℕ, _+_, _-_, _<_, _≤_, suc, zero}
 use native.Mathlib.Numerals.{add-one}
@@ -8,8 +7,6 @@ use native.Mathlib.Omega.{arith}
 use borrow.Author.Tests.{le-ltb, lt-ltb}
 use lib.ListN.{drop, getD, length, set, take}
 use lib.Seq.{drop-cons, drop-length, drop-set-lt, take-suc, take-suc-set}
-use Rattle.automata.specs.Letters.{sameKey}
-use Rattle.automata.specs.Lists.{any}
 use Rattle.automata.specs.Words.{place}
 use Rattle.relettering.specs.Relettering.{inserted, joinedLetters}
 use Rattle.relettering.proofs.Laws.{inserted-long, joined-grows}

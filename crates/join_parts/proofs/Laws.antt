@@ -14,4 +14,4 @@ pub use Rattle.join_parts.proofs.ArcLengths.{arcs-moved-length, entry-l
 -- the final flags of a file and the numbers of its final states, as the loops meet them
 pub use Rattle.join_parts.proofs.FinalFlags.{flags-end, returning, valid-finals, valid-flags, valid-lengths}
 -- arcs with the new numbers of their letters: their bytes, and how many these are; and automata over the same letters
-pub use Rattle.join_parts.proofs.NewLetters.{letter-byte, over-length, over-same, relettered-bytes, relettered-length, relettered-size}
+pub use Rattle.join_parts.proofs.NewLetters.{over-length, over-same, relettered-length}

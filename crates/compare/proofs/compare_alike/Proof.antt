@@ -1,5 +1,5 @@
 -- `compare::compare_alike` meets its contract: lists that agree are the letters of both, by no new numbers.
-use mathlib.Core.Path.{_≡_}
+
 use mathlib.Core.List.{[]}
 use Prim.Native.Nat.{_-_}
 use native.Mathlib.Omega.{arith}

@@ -1,10 +1,8 @@
 -- `file_pair::read_files` meets its contract.
 use mathlib.Core.Path.{_∙_, _≡_, ap, sym}
-use mathlib.Core.Bool.{cond, not}
 use Prim.Native.Nat.{ℕ}
 use native.Mathlib.Omega.{arith}
 use borrow.Author.Needs.{needs}
-use borrow.Author.Tests.{not-false, not-true}
 use Rattle.file_fields.specs.declared.Reading.the-variants.{Valid}
 use Rattle.file_fields.specs.Parts.{numberOf}
 use Rattle.format.specs.Reading.{readingOf}
@@ -12,7 +10,6 @@ use lib.ListN.{length-drop, length-take}
 use Rattle.file_fields.proofs.Laws.{lent-letters}
 use Rattle.file_laws.proofs.Laws.{valid-letters}
 use Rattle.file_pair.specs.declared.Files.the-variants.{Fault}
-use Rattle.file_pair.specs.Pair.{filesOf}
 use Rattle.file_pair.proofs.read_files.Statement.{statement}
 use Rattle.file_pair.proofs.PairLaws.{first-fault, second-fault, valid-files}
 use Rattle.file_pair.proofs.read_files.Tie as tie

@@ -1,4 +1,5 @@
-use mathlib.Core.Path.{_∙_, _≡_, ap, refl, sym}
+-- `file_letters::joining::join_lists` meets its contract: the array has the joined list of the bytes taken so far.
+use mathlib.Core.Path.{_∙_, _≡_, ap, sym}
 use Prim.Native.Nat.{_+_, _-_, _≤_, ℕ}
 use native.Mathlib.Omega.{arith}
 use borrow.Author.Needs.{needs}
@@ -9,11 +10,6 @@ use Rattle.file_letters.proofs.JoinLaws.{joined-more, joined-new, joine
 use Rattle.relettering.proofs.Laws.{joined-long}
 use Rattle.file_letters.proofs.joining.join_lists.Statement.{statement}
 use Rattle.file_letters.proofs.joining.join_lists.Tie as tie
-use Rattle.file_letters.proofs.joining.join_lists.Reads as reads
-use Rattle.file_letters.proofs.joining.join_lists.Lts as lts
-use Rattle.file_letters.proofs.joining.copied.Reads as copied-reads
-use Rattle.file_letters.proofs.joining.insert.Reads as insert-reads
-use Rattle.file_letters.proofs.numbering.place_of.Reads as place-of-reads
 
 abbrev Inv-loop : tie.InvT-loop
 Inv-loop first second letters₀ count₀ i₀ letters count i = (i ≤ length second) × (length letters ≡ 64) × (count ≡ length (joinedLetters first (drop i second))) × (take count letters ≡ joinedLetters first (drop i second))
@@ -33,47 +29,24 @@ more t =
     let a = s .args in
     (joined-more (a .first .now) (a .second .now) (l .loop .i) (omega arith) (l .loop .inv .0) (is-new t), omega (arith, joined-part (a .first .now) (a .second .now) (l .loop .i - 1), s .pre))
 
--- src/joining.rt:78:23
 copied-requires : tie.Need-copied-requires Inv-loop μ-loop
 copied-requires c κs = let s = c .before .before in omega (arith, s .pre, joined-long (s .args .first .now) (s .args .second .now) .0)
 
--- src/joining.rt:81:5
 loop-holds : tie.Need-loop-holds Inv-loop μ-loop
 loop-holds c = let a = c .before .before .before .args in let e = joined-none (a .first .now) (a .second .now) in (omega arith, search needs, sym (ap length e), c .copied .ensures ∙ sym e)
 
--- src/joining.rt:82:9
-sub-i : tie.Need-sub-i Inv-loop μ-loop
-sub-i c = omega arith
-
--- src/joining.rt:83:28
 shared-slice-read-place-of : tie.Need-shared-slice-read-place-of Inv-loop μ-loop
 shared-slice-read-place-of c = omega (arith, c .before .before .loop .inv .0)
 
--- src/joining.rt:83:12
-place-of-requires : tie.Need-place-of-requires Inv-loop μ-loop
-place-of-requires c κs = search needs
-
--- src/joining.rt:84:20
-slice-aggregate-insert : tie.Need-slice-aggregate-insert Inv-loop μ-loop
-slice-aggregate-insert c = search needs
-
--- src/joining.rt:84:41
 shared-slice-read-insert : tie.Need-shared-slice-read-insert Inv-loop μ-loop
 shared-slice-read-insert c = omega (arith, c .before .before .before .before .before .before .loop .inv .0)
 
--- src/joining.rt:84:13
 insert-requires : tie.Need-insert-requires Inv-loop μ-loop
 insert-requires c κs = let t = c .before .before in let l = t .before .before .before .before in omega (arith, more t, l .loop .inv .1, l .loop .inv .2)
 
--- src/joining.rt:85:13
 add-count : tie.Need-add-count Inv-loop μ-loop
 add-count c = let t = c .before .before .before .before in let l = t .before .before .before .before in omega (arith, more t, l .loop .inv .2)
 
--- src/joining.rt:81:5
-loop-less : tie.Need-loop-less Inv-loop μ-loop
-loop-less c = omega arith
-
--- src/joining.rt:81:5
 loop-again : tie.Need-loop-again Inv-loop μ-loop
 loop-again c =
     let t = c .before .before .before .before in
@@ -86,11 +59,6 @@ loop-again c =
       i .1 ∙ ap (inserted (getD (a .second .now) (l .loop .i - 1) 0)) (l .loop .inv .3) ∙ sym (joined-new (a .first .now) (a .second .now) (l .loop .i) (omega arith) (l .loop .inv .0) (is-new t)),
     )
 
--- src/joining.rt:81:5
-loop-less-2 : tie.Need-loop-less-2 Inv-loop μ-loop
-loop-less-2 c = omega arith
-
--- src/joining.rt:81:5
 loop-again-2 : tie.Need-loop-again-2 Inv-loop μ-loop
 loop-again-2 c =
     let l = c .before .before .before .before in
@@ -98,7 +66,6 @@ loop-again-2 c =
     let e = joined-old (a .first .now) (a .second .now) (l .loop .i) (omega arith) (l .loop .inv .0) (omega (arith, c .before .place-of .ensures, c .if1 .left)) in
     (omega (arith, l .loop .inv .0), l .loop .inv .1, l .loop .inv .2 ∙ sym (ap length e), l .loop .inv .3 ∙ sym e)
 
--- src/joining.rt:74:1
 returns : tie.Need-returns Inv-loop μ-loop
 returns c =
     let l = c .before .loop in
@@ -116,15 +83,15 @@ join-lists-spec =
     μ-loop
     copied-requires
     loop-holds
-    sub-i
+    (λ c. omega arith)
     shared-slice-read-place-of
-    place-of-requires
-    slice-aggregate-insert
+    (λ c κs. search needs)
+    (λ c. search needs)
     shared-slice-read-insert
     insert-requires
     add-count
-    loop-less
+    (λ c. omega arith)
     loop-again
-    loop-less-2
+    (λ c. omega arith)
     loop-again-2
     returns)
