@@ -1,6 +1,6 @@
 -- Refusals: the refusals of comparing in their order, one test after the other.
 use mathlib.Core.Path.{_≡_, _∙_, ap, refl, sym}
-use mathlib.Core.Logic.{_≢_, _⊎_}
+use mathlib.Core.Logic.{_≢_}
 use mathlib.Core.Bool.{Bool, false, true, _||_}
 use mathlib.Core.List.{List, [], _∷_, _++_}
 use Prim.Native.Nat.{ℕ, _≤_, _<_}
@@ -19,10 +19,10 @@ use Rattle.format.specs.Decoding.{automatonOf}
 use Rattle.format.specs.Refusals.{unlessRefused}
 use Rattle.file_fields.specs.declared.Counts.{Counts}
 use Rattle.file_pair.specs.Pair.{filesOf, lettersOf, pairRefusals}
-use Rattle.file_pair.specs.declared.Files.the-variants.{Alike, Apart, Fault}
-use Rattle.file_pair.proofs.Laws.{files-passed, files-refused}
+use Rattle.file_pair.specs.declared.Files.the-variants.{Fault, Valid}
+use Rattle.file_pair.proofs.Laws.{files-many, files-passed, files-refused}
 use Rattle.table.proofs.Laws.{explored-few, explored-many}
-use Rattle.compare.specs.Answers.{Answers}
+use Rattle.compare.specs.Answers.{Answers, AnswersOfFiles, AnswersOver}
 use Rattle.compare.specs.Loading.{limitOf}
 use Rattle.compare_promise.specs.Comparing.{answerOf, bufferOf, comparisonOf, countRefusals, limitRefusals, refusals, shownWord, tableRefusals, verdictOf}
 use Rattle.compare_promise.specs.declared.Comparison.{Comparison}
@@ -105,23 +105,23 @@ module _ (first second : List ℕ) where
   abbrev two : Automaton
   two = relettered (lettersOf first second) (automatonOf second)
 
-  -- the refusals behind 24
-  abbrev pub behindMemory : List (Bool × ℕ × ℕ)
-  behindMemory = pairRefusals first second ++ tableRefusals 256 2048 512 one two
-
-  -- the files: a fault of the first, of the second, and 11
-  pub files-fault : (old : List ℕ) {n b : ℕ} → filesOf first second ≡ Fault n b → Answers 256 512 behindMemory one two old old (Refused n b)
+  -- the files: a fault of the first, of the second; 11; neither
+  pub files-fault : (old : List ℕ) {n b : ℕ} → filesOf first second ≡ Fault n b → AnswersOfFiles first second old old (Refused n b)
   files-fault old e = record { answer = sym (files-refused first second Refused (tableRefusals 256 2048 512 one two) (answerOf (verdict one two 256 512)) e); buffer = refl }
 
-  pub files-both : {old new : List ℕ} {r : Comparison} {c d : Counts} → (filesOf first second ≡ Alike c d) ⊎ (filesOf first second ≡ Apart c d) → Answers 256 512 (tableRefusals 256 2048 512 one two) one two old new r → Answers 256 512 behindMemory one two old new r
-  files-both e a = record { answer = a .answer ∙ sym (files-passed first second Refused (tableRefusals 256 2048 512 one two) (answerOf (verdict one two 256 512)) e); buffer = a .buffer }
+  module _ {agree : Bool} {c d : Counts} (e : filesOf first second ≡ Valid agree c d) where
+    pub letters-many : (old : List ℕ) → 64 < length (lettersOf first second) → AnswersOfFiles first second old old (Refused 11 0)
+    letters-many old h = record { answer = sym (files-many first second Refused (tableRefusals 256 2048 512 one two) (answerOf (verdict one two 256 512)) e h); buffer = refl }
+
+    pub files-both : {old new : List ℕ} {r : Comparison} → length (lettersOf first second) ≤ 64 → AnswersOver (tableRefusals 256 2048 512) first second old new r → AnswersOfFiles first second old new r
+    files-both h a = record { answer = a .answer ∙ sym (files-passed first second Refused (tableRefusals 256 2048 512 one two) (answerOf (verdict one two 256 512)) e h); buffer = a .buffer }
 
   module _ (words : ℕ) (old : List ℕ) where
     -- the contract
     abbrev Whole : (new : List ℕ) → Comparison → Type 0
     Whole new r = (r ≡ comparisonOf first second words (length old)) × (new ≡ bufferOf r (shownWord first second) old)
 
-    opened : {new : List ℕ} {r : Comparison} → Answers 256 512 ((ltb words 8192 || ltb (length old) 512, 24, 0) ∷ behindMemory) one two old new r → Whole new r
+    opened : {new : List ℕ} {r : Comparison} → Answers 256 512 ((ltb words 8192 || ltb (length old) 512, 24, 0) ∷ pairRefusals first second ++ tableRefusals 256 2048 512 one two) one two old new r → Whole new r
     unfolding comparisonOf shownWord verdictOf refusals pairRefusals withLetters
     opened a = (a .answer, a .buffer)
 
@@ -133,5 +133,5 @@ module _ (first second : List ℕ) where
     buffer-short g h = opened (stopped _ 24 0 old (rw (le-ltb words 8192 g, lt-ltb (length old) 512 h)))
 
     -- it is passed
-    pub memory-passed : {new : List ℕ} {r : Comparison} → 8192 ≤ words → 512 ≤ length old → Answers 256 512 behindMemory one two old new r → Whole new r
+    pub memory-passed : {new : List ℕ} {r : Comparison} → 8192 ≤ words → 512 ≤ length old → AnswersOfFiles first second old new r → Whole new r
     memory-passed g h a = opened (passed _ 24 0 (rw (le-ltb words 8192 g, le-ltb (length old) 512 h)) a)

@@ -1,16 +1,17 @@
 // compare: do two automata accept the same words? (document 01, 'Comparing')
 ghost use mathlib.Core.Path.{_≡_};
+ghost use mathlib.Core.Bool.{false, true};
 ghost use Prim.Native.Nat.{_≤_};
 ghost use lib.ListN.{length};
-ghost use Rattle.automata.specs.Words.{SameLetters};
-ghost use Rattle.format.specs.Decoding.{automatonOf};
 ghost use Rattle.file_pair.specs.Lettered.{Lettered, automatonOver};
-ghost use Rattle.file_pair.specs.Pair.{Joinable};
+ghost use Rattle.file_pair.specs.Pair.{filesOf};
+ghost use Rattle.file_pair.specs.declared.Files.the-variants.{Valid};
 ghost use Rattle.compare_promise.specs.Comparing.{bufferOf, comparisonOf, shownWord, tableRefusals};
 pub use compare_promise::Comparison;
-ghost use Rattle.compare.specs.Answers.{AnswersAtLimits, AnswersOver};
+ghost use Rattle.compare.specs.Answers.{AnswersAtLimits, AnswersOfFiles};
 use deciding::decide;
 use file_pair::Files;
+use file_pair::count_letters;
 use file_pair::letter_files;
 use file_pair::read_files;
 use format::Counts;
@@ -65,9 +66,9 @@ fn compare_alike(
     w: &mut [u64],
     word: &mut [u8],
 ) -> Comparison
-    requires { ⌜ Joinable a b (now first) (now second) × SameLetters (automatonOf (now first)) (automatonOf (now second)) × (8192 ≤ length (now w)) × (512 ≤ length (now word)) ⌝ }
+    requires { ⌜ (filesOf (now first) (now second) ≡ Valid true a b) × (8192 ≤ length (now w)) × (512 ≤ length (now word)) ⌝ }
     ensures same { λ _. ⌜ length (now (w .exit)) ≡ length (now (w .entry)) ⌝ }
-    ensures answers { λ r. ⌜ AnswersOver (tableRefusals 256 2048 512) (now (first .entry)) (now (second .entry)) (now (word .entry)) (now (word .exit)) r ⌝ }
+    ensures answers { λ r. ⌜ AnswersOfFiles (now (first .entry)) (now (second .entry)) (now (word .entry)) (now (word .exit)) r ⌝ }
 {
     let end = flags_at(a);
     compare_files(
@@ -83,7 +84,8 @@ fn compare_alike(
     )
 }
 
-// Two files over their joined letter list. Cost: what joining the lists and comparing the files takes.
+// Two files over their joined letter list. Refuses 11: more than 64 letters together. Cost: what counting the letters, joining the lists and
+// comparing the files takes.
 fn compare_apart(
     first: &[u8],
     a: Counts,
@@ -92,10 +94,16 @@ fn compare_apart(
     w: &mut [u64],
     word: &mut [u8],
 ) -> Comparison
-    requires { ⌜ Joinable a b (now first) (now second) × (8192 ≤ length (now w)) × (512 ≤ length (now word)) ⌝ }
+    requires { ⌜ (filesOf (now first) (now second) ≡ Valid false a b) × (8192 ≤ length (now w)) × (512 ≤ length (now word)) ⌝ }
     ensures same { λ _. ⌜ length (now (w .exit)) ≡ length (now (w .entry)) ⌝ }
-    ensures answers { λ r. ⌜ AnswersOver (tableRefusals 256 2048 512) (now (first .entry)) (now (second .entry)) (now (word .entry)) (now (word .exit)) r ⌝ }
+    ensures answers { λ r. ⌜ AnswersOfFiles (now (first .entry)) (now (second .entry)) (now (word .entry)) (now (word .exit)) r ⌝ }
 {
+    if 64 < count_letters(false, a, first, b, second) {
+        return Comparison::Refused {
+            number: 11,
+            automaton: 0,
+        };
+    }
     let m = a.letters;
     let n = b.letters;
     let l = letter_files(a, first, b, second);
@@ -145,7 +153,12 @@ pub fn compare(first: &[u8], second: &[u8], work: &mut [u64], word: &mut [u8]) -
     }
     match read_files(first, second) {
         Files::Fault(number, automaton) => Comparison::Refused { number, automaton },
-        Files::Alike(a, b) => compare_alike(first, a, second, b, work, word),
-        Files::Apart(a, b) => compare_apart(first, a, second, b, work, word),
+        Files::Valid(agree, a, b) => {
+            if agree {
+                compare_alike(first, a, second, b, work, word)
+            } else {
+                compare_apart(first, a, second, b, work, word)
+            }
+        }
     }
 }

@@ -1,11 +1,13 @@
 -- ArcBytes: the bytes of arcs and operations, as the writers' loops meet them, and their lengths.
 use mathlib.Core.Path.{_≡_, refl, ap, _∙_}
 use mathlib.Core.Logic.{_≢_}
+use mathlib.Core.Bool.{Bool, false, true}
 use mathlib.Core.List.{List, [], _∷_, _++_, map}
 use Prim.Native.Nat.{ℕ, zero, suc, _+_, _-_, _*_, _/_, _%_, _<_, _≤_}
 use native.Mathlib.Nat.{add-zero}
 use native.Mathlib.Omega.{arith}
-use borrow.Author.Tests.{eq-eqb, ne-eqb}
+use borrow.Author.Tests.{eq-eqb, eqb-false, eqb-true, ne-eqb}
+use lib.Dec.{eqb}
 use lib.ListN.{length, getD, drop, length-map}
 use lib.Seq.{drop-drop, getD-drop}
 use Rattle.automata.specs.Automaton.{Op, reads, writes, Arc}
@@ -21,17 +23,33 @@ use Rattle.file_writing.specs.Placing.{Appended}
 use Rattle.file_arc_writing.specs.Arcs.{arcWith}
 
 -- ---- moved operations
-pub register-moved : (k r : ℕ) → r ≢ 0 → movedRegister k r ≡ r + k
+register-moved : (k r : ℕ) → r ≢ 0 → movedRegister k r ≡ r + k
 register-moved k zero h = absurd (h refl)
 register-moved k (suc r) h = omega arith
 
-pub read-moved : (k x y : ℕ) → x / 16 ≡ 0 → opBytes (movedOp k (opOf x y)) ≡ movedRegister k (x % 16) ∷ y ∷ []
+read-moved : (k x y : ℕ) → x / 16 ≡ 0 → opBytes (movedOp k (opOf x y)) ≡ movedRegister k (x % 16) ∷ y ∷ []
 unfolding opOf
 read-moved k x y e = let z : 0 * 16 + movedRegister k (x % 16) ≡ movedRegister k (x % 16) = omega arith in rw (eq-eqb (x / 16) 0 e, z)
 
-pub write-moved : (k x y : ℕ) → x / 16 ≢ 0 → opBytes (movedOp k (opOf x y)) ≡ (16 + movedRegister k (x % 16)) ∷ y ∷ []
+write-moved : (k x y : ℕ) → x / 16 ≢ 0 → opBytes (movedOp k (opOf x y)) ≡ (16 + movedRegister k (x % 16)) ∷ y ∷ []
 unfolding opOf
 write-moved k x y h = let z : 1 * 16 + movedRegister k (x % 16) ≡ 16 + movedRegister k (x % 16) = omega arith in rw (ne-eqb (x / 16) 0 h, z)
+
+-- a read or a write: at register 0 it stays, at another its first byte is k more
+module _ (k x y : ℕ) (h : x < 32) where
+  pub zero-stays : x % 16 ≡ 0 → opBytes (movedOp k (opOf x y)) ≡ x ∷ y ∷ []
+  zero-stays e = go (eqb (x / 16) 0) refl
+    where
+      go : (b : Bool) → eqb (x / 16) 0 ≡ b → opBytes (movedOp k (opOf x y)) ≡ x ∷ y ∷ []
+      go true f = let d = eqb-true (x / 16) 0 f in read-moved k x y d ∙ ap (λ (r : ℕ). r ∷ y ∷ []) (ap (movedRegister k) e ∙ omega arith)
+      go false f = let d = eqb-false (x / 16) 0 f in write-moved k x y d ∙ ap (λ (r : ℕ). r ∷ y ∷ []) (ap (λ (r : ℕ). 16 + movedRegister k r) e ∙ omega arith)
+
+  pub others-move : x % 16 ≢ 0 → opBytes (movedOp k (opOf x y)) ≡ (x + k) ∷ y ∷ []
+  others-move n = go (eqb (x / 16) 0) refl
+    where
+      go : (b : Bool) → eqb (x / 16) 0 ≡ b → opBytes (movedOp k (opOf x y)) ≡ (x + k) ∷ y ∷ []
+      go true f = let d = eqb-true (x / 16) 0 f in read-moved k x y d ∙ ap (λ (r : ℕ). r ∷ y ∷ []) (register-moved k (x % 16) n ∙ omega arith)
+      go false f = let d = eqb-false (x / 16) 0 f in write-moved k x y d ∙ ap (λ (r : ℕ). r ∷ y ∷ []) (ap (λ (r : ℕ). 16 + r) (register-moved k (x % 16) n) ∙ omega arith)
 
 -- moved by 0, an operation is as it was
 pub op-unmoved : (o : Op) → movedOp 0 o ≡ o

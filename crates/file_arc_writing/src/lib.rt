@@ -6,13 +6,12 @@ ghost use lib.ListN.{length};
 ghost use Rattle.automata.specs.Automaton.{writes};
 ghost use Rattle.automata.specs.Lists.{countFrom};
 ghost use Rattle.automata.specs.Unfolding.{readZero};
-ghost use Rattle.automata.specs.Joins.{movedRegister, movedOp, clearing};
+ghost use Rattle.automata.specs.Joins.{movedOp, clearing};
 ghost use Rattle.format.specs.Decoding.{opOf, opsOf};
 ghost use Rattle.format.specs.Encoding.{opBytes, opsBytes, arcBytes};
 ghost use Rattle.file_writing.specs.Placing.{placed, Appended};
-ghost use Rattle.file_arc_writing.specs.Arcs.{arcWith, AreBytes};
+ghost use Rattle.file_arc_writing.specs.Arcs.{AreBytes, KnownOps, arcWith};
 use format::fields::byte;
-use format::fields::operation_kind;
 use format::fields::operation_register;
 
 // The first three bytes of an arc: from-state, letter (255 is the empty move), to-state.
@@ -34,30 +33,17 @@ fn write_fields(out: &mut [u8], at: usize, f: Fields, p: usize) -> usize
     at + 4
 }
 
-// A register, moved by k if it is 1 or above. Cost: constant.
-fn moved_register(register: usize, k: usize) -> usize
-    requires { ⌜ (register < 16) × (k ≤ 8) ⌝ }
-    ensures { λ r. ⌜ (r ≡ movedRegister k register) × (r < 24) ⌝ }
-{
-    if register == 0 { 0 } else { register + k }
-}
-
-// The first byte of the operation with the first byte x, its register moved. Cost: constant.
+// The first byte of the operation with the first byte x, a read or a write, its register moved by k if it is 1 or above. Cost: constant.
 fn moved_operation(x: usize, k: usize) -> usize
-    requires { ⌜ k ≤ 8 ⌝ }
+    requires { ⌜ (x < 32) × (k ≤ 8) ⌝ }
     ensures { λ r. ⌜ ((y : ℕ) → opBytes (movedOp k (opOf x y)) ≡ r ∷ y ∷ []) × (r < 40) ⌝ }
 {
-    let register = moved_register(operation_register(x), k);
-    if operation_kind(x) == 0 {
-        register
-    } else {
-        16 + register
-    }
+    if operation_register(x) == 0 { x } else { x + k }
 }
 
 // At the front of the output the p operations at the front of `ops`, their registers moved. Cost: p.
 fn write_ops(out: &mut [u8], ops: &[u8], p: usize, k: usize)
-    requires { ⌜ (k ≤ 8) × (2 * p ≤ length (now ops)) × (2 * p ≤ length (now out)) ⌝ }
+    requires { ⌜ (k ≤ 8) × (2 * p ≤ length (now ops)) × (2 * p ≤ length (now out)) × KnownOps p (now ops) ⌝ }
     ensures { λ _. ⌜ now (out .exit) ≡ placed 0 (opsBytes (map (movedOp k) (opsOf p (now (ops .entry))))) (now (out .entry)) ⌝ }
 {
     let mut i: usize = 0;
@@ -93,7 +79,7 @@ fn write_clearing(out: &mut [u8], p: usize)
 
 // An arc whose operations are the p at the front of `ops`, their registers from 1 up moved by k. Refuses nothing. Cost: p.
 pub fn write_arc(out: &mut [u8], at: usize, f: Fields, ops: &[u8], p: usize, k: usize) -> usize
-    requires { ⌜ AreBytes f × (p < 256) × (k ≤ 8) × (2 * p ≤ length (now ops)) × (at + (4 + 2 * p) ≤ length (now out)) ⌝ }
+    requires { ⌜ AreBytes f × (p < 256) × (k ≤ 8) × (2 * p ≤ length (now ops)) × (at + (4 + 2 * p) ≤ length (now out)) × KnownOps p (now ops) ⌝ }
     ensures { λ r. ⌜ Appended at (arcBytes (arcWith f (map (movedOp k) (opsOf p (now (ops .entry)))))) (now (out .entry)) (now (out .exit)) r ⌝ }
 {
     write_fields(out, at, f, p);
@@ -113,7 +99,7 @@ pub fn write_joint_arc(
     q: usize,
     k: usize,
 ) -> usize
-    requires { ⌜ AreBytes f × (p + q < 256) × (k ≤ 8) × (2 * p ≤ length (now left)) × (2 * q ≤ length (now right)) × (at + (4 + 2 * (p + q)) ≤ length (now out)) ⌝ }
+    requires { ⌜ AreBytes f × (p + q < 256) × (k ≤ 8) × (2 * p ≤ length (now left)) × (2 * q ≤ length (now right)) × (at + (4 + 2 * (p + q)) ≤ length (now out)) × KnownOps p (now left) × KnownOps q (now right) ⌝ }
     ensures { λ r. ⌜ Appended at (arcBytes (arcWith f (opsOf p (now (left .entry)) ++ map (movedOp k) (opsOf q (now (right .entry)))))) (now (out .entry)) (now (out .exit)) r ⌝ }
 {
     write_fields(out, at, f, p + q);

@@ -13,7 +13,7 @@ pub use Rattle.file_laws.proofs.ValidLaws.{file-seen, lent-alphabet, va
 pub use Rattle.file_laws.proofs.EncodingLaws.{bytes-length, ops-length}
 -- a valid file is the bytes of its automaton, so no two valid files hold the same one
 pub use Rattle.file_laws.proofs.CanonicalLaws.{flags-same, letter-same}
--- arcs that are read without fault are within the limits, and stand whole as code that walks them asks
-pub use Rattle.file_laws.proofs.ArcLaws.{arc-fits, arcs-seen, ops-count}
+-- arcs that are read without fault are within the limits, and stand whole as code that walks them asks; their operations are reads and writes
+pub use Rattle.file_laws.proofs.ArcLaws.{arc-fits, arcs-seen, op-kind, ops-count}
 -- an operation and an arc within the limits of some counts, and that the arcs of an automaton within the limits are
 pub use Rattle.file_laws.proofs.Fitting.{ArcFits, OpFits, arcs-fit, fits-by}

@@ -38,14 +38,10 @@ pub fn number_letters(own: &[u8], all: &[u8]) -> [u8; 64]
     new
 }
 
-// The new number of a letter, or of the empty move; a number beyond the list is left alone. That the list is empty is asked first: in a loop
-// this is settled before its first turn, and the loop that is left then looks at no list. Refuses nothing. Cost: constant.
+// The new number of a letter, or of the empty move; a number beyond the list is left alone. Refuses nothing. Cost: constant.
 pub fn new_letter(new: &[u8], letter: usize) -> usize
     ensures { λ r. ⌜ (r ≡ letterBy (now (new .entry)) letter) × (letter < 256 → r < 256) ⌝ }
 {
-    if new.len() == 0 {
-        return letter;
-    }
     if letter < new.len() {
         return byte(new, letter);
     }

@@ -3,10 +3,10 @@
 use mathlib.Core.Path.{_≡_}
 use mathlib.Core.Logic.{_⊎_}
 use mathlib.Core.List.{List}
-use Prim.Native.Nat.{ℕ, _<_}
+use Prim.Native.Nat.{ℕ}
 use lib.ListN.{length}
 use Rattle.automata.specs.Automaton.{Automaton}
-use Rattle.relettering.specs.Relettering.{letterBy, relettered, withLetters}
+use Rattle.relettering.specs.Relettering.{relettered, withLetters}
 use Rattle.file_fields.specs.declared.Counts.{Counts}
 use Rattle.file_fields.specs.declared.Reading.the-variants.{Valid}
 use Rattle.format.specs.Decoding.{automatonOf}
@@ -22,7 +22,7 @@ automatonOver new all file = withLetters new all (automatonOf file)
 abbrev pub Numbers : (n : ℕ) (new : List ℕ) → Type 0
 Numbers n new = (length new ≡ 0) ⊎ (length new ≡ n)
 
--- over these letters each automaton is within the limits, and no two letters of the second have one number
+-- over these letters each automaton is within the limits
 pub record Lettered (a b : Counts) (s t one two all : List ℕ) : Type 0 where
   pub first : readingOf s ≡ Valid a
   pub second : readingOf t ≡ Valid b
@@ -30,7 +30,6 @@ pub record Lettered (a b : Counts) (s t one two all : List ℕ) : Type 0 where
   pub numbers₂ : Numbers (b .letters) two
   pub fits₁ : Fits (automatonOver one all s)
   pub fits₂ : Fits (automatonOver two all t)
-  pub apart : (l m : ℕ) → l < b .letters → m < b .letters → letterBy two l ≡ letterBy two m → l ≡ m
 
 -- and these are the letters of both: the automata are those that the definitions join and compare
 pub record OverBoth (a b : Counts) (s t one two all : List ℕ) : Type 0 where

@@ -3,4 +3,4 @@ pub mod Promise
 -- the laws behind it
 pub mod Outcomes
 pub mod BeyondLaws
-pub mod AlikeLaws
+pub mod OwnNumbers

@@ -1,11 +1,9 @@
 -- Promise: what the joining calls promise of the bytes (demand 2, and the exact condition of each refusal): see specs/Promises.antt.
 -- The answer r and the output are those of the calls' contracts (src/lib.rt); whatever the join, the proof is two-joined (Outcomes).
-use mathlib.Core.Path.{_≡_, refl}
 use mathlib.Core.Logic.{_↔_, inl, inr, ⊎-elim}
 use mathlib.Core.List.{List}
 use Prim.Native.Nat.{ℕ}
 use lib.ListN.{length}
-use Rattle.automata.specs.Automaton.{Automaton}
 use Rattle.automata.specs.Joins.{closure, concatenation, intersection, union}
 use Rattle.automata.specs.Languages.{Concatenation, Intersection, Union}
 use Rattle.automata.proofs.Laws.{concatenating, intersecting, uniting}
@@ -13,24 +11,11 @@ use Rattle.format.specs.Decoding.{automatonOf}
 use Rattle.format.specs.Encoding.{bytesOf}
 use Rattle.file_writing.specs.Answers.{outputOf, told}
 use Rattle.join_parts.specs.Joining.{closedOf, joinOf, joinedOf}
-use Rattle.join_union.proofs.Laws.{union-fits}
-use Rattle.join_concatenation.proofs.Laws.{concatenation-fits}
-use Rattle.join_intersection.proofs.Laws.{intersection-fits}
+use Rattle.join_union.proofs.Laws.{union-fits, union-lists}
+use Rattle.join_concatenation.proofs.Laws.{concatenation-fits, concatenation-lists}
+use Rattle.join_intersection.proofs.Laws.{intersection-fits, intersection-lists}
 use Rattle.join.specs.Promises.{ClosurePromised, JoinPromised}
 use Rattle.join.proofs.Outcomes.{one-closed, two-joined}
-
--- the joins list the letters of the first
-union-lists : (a b : Automaton) → union a b .alphabet ≡ a .alphabet
-unfolding union
-union-lists a b = refl
-
-concatenation-lists : (a b : Automaton) → concatenation a b .alphabet ≡ a .alphabet
-unfolding concatenation
-concatenation-lists a b = refl
-
-intersection-lists : (a b : Automaton) → intersection a b .alphabet ≡ a .alphabet
-unfolding intersection
-intersection-lists a b = refl
 
 -- their words are told by which words the two have
 module _ (P Q P' Q' : List ℕ → Type 0) (f : (w : List ℕ) → P w ↔ P' w) (g : (w : List ℕ) → Q w ↔ Q' w) (w : List ℕ) where

@@ -2,91 +2,37 @@
 // Each call answers the length of the joined file, or a refusal's number and the automaton at fault. A refusal leaves the
 // output as it was lent; else the joined file stands at its front, and the bytes behind it are as they were lent. Two files are joined over
 // the letters of both (document 02, change 6): the joined file lists the first file's bytes and those of the second that match none of
-// them, ascending, and its arcs have the numbers of their letters there.
+// them, ascending, and its arcs have the numbers of their letters there. It is written by each file's own numbers first; where the two lists
+// differ, the letters of both and their numbers are then put in. So files with the same letters pay for none of this.
 ghost use mathlib.Core.Path.{_≡_};
+ghost use mathlib.Core.Bool.{cond};
+ghost use Prim.Native.Nat.{_+_, _≤_};
 ghost use lib.ListN.{length};
 ghost use Rattle.automata.specs.Joins.{union, concatenation, intersection, closure};
 ghost use Rattle.format.specs.Decoding.{automatonOf};
 ghost use Rattle.format.specs.Encoding.{bytesOf};
 ghost use Rattle.file_writing.specs.Answers.{outputOf};
-ghost use Rattle.file_pair.specs.Lettered.{Lettered, automatonOver};
-ghost use Rattle.file_pair.specs.Pair.{Joinable};
-ghost use Rattle.join_parts.specs.Joining.{joinOf, joinedOf, closedOf, writtenOf};
-ghost use Rattle.join.specs.Kinds.{joinBy};
+ghost use Rattle.join_parts.specs.Joining.{joinOf, joinedOf, closedOf};
 use file_pair::Files;
-use file_pair::letter_files;
+use file_pair::count_letters;
 use file_pair::read_files;
 use file_writing::Written;
 use format::Counts;
 use format::Reading;
 use format::fields::flags_at;
+use join_parts::letters::put_letters;
 
-// Which join of two files with different letters.
-enum Kind {
-    Union,
-    Concatenation,
-    Intersection,
-}
-
-// Two files joined over the letters lent, each by the new numbers of its letters. Cost: what the join takes.
-fn write_join(
-    kind: Kind,
-    out: &mut [u8],
-    a: Counts,
-    first: &[u8],
-    one: &[u8],
-    b: Counts,
-    second: &[u8],
-    two: &[u8],
-    letters: &[u8],
-) -> Written
-    requires { ⌜ Lettered a b (now first) (now second) (now one) (now two) (now letters) ⌝ }
-    ensures answer { λ r. ⌜ r ≡ writtenOf (joinBy kind (automatonOver (now (one .entry)) (now (letters .entry)) (now (first .entry))) (automatonOver (now (two .entry)) (now (letters .entry)) (now (second .entry)))) (length (now (out .entry))) ⌝ }
-    ensures output { λ r. ⌜ now (out .exit) ≡ outputOf r (bytesOf (joinBy kind (automatonOver (now (one .entry)) (now (letters .entry)) (now (first .entry))) (automatonOver (now (two .entry)) (now (letters .entry)) (now (second .entry))))) (now (out .entry)) ⌝ }
+// Where the second file's letters end whose bytes tell which arcs have one letter: behind the last where the lists differ; where they agree the
+// numbers tell it, and none is looked at. Cost: constant.
+fn others_end(agree: bool, b: Counts) -> usize
+    requires { ⌜ b .letters ≤ 64 ⌝ }
+    ensures end { λ r. ⌜ r ≡ cond agree 12 (12 + b .letters) ⌝ }
+    ensures inside { λ r. ⌜ (12 ≤ r) × (r ≤ 12 + b .letters) ⌝ }
 {
-    match kind {
-        Kind::Union => join_union::unite(out, a, first, one, b, second, two, letters),
-        Kind::Concatenation => {
-            join_concatenation::append(out, a, first, one, b, second, two, letters)
-        }
-        Kind::Intersection => {
-            join_intersection::product(out, a, first, one, b, second, two, letters)
-        }
+    if agree {
+        return 12;
     }
-}
-
-// Two files over their joined letter list. Where the lists agree, the calls below go on by themselves: no letter gets a new number then, and
-// nothing is made of the lists. Cost: what joining the lists and the join take.
-fn join_apart(
-    kind: Kind,
-    out: &mut [u8],
-    a: Counts,
-    first: &[u8],
-    b: Counts,
-    second: &[u8],
-) -> Written
-    requires { ⌜ Joinable a b (now first) (now second) ⌝ }
-    ensures answer { λ r. ⌜ r ≡ writtenOf (joinOf (joinBy kind) (now (first .entry)) (now (second .entry))) (length (now (out .entry))) ⌝ }
-    ensures output { λ r. ⌜ now (out .exit) ≡ outputOf r (bytesOf (joinOf (joinBy kind) (now (first .entry)) (now (second .entry)))) (now (out .entry)) ⌝ }
-{
-    let m = a.letters;
-    let n = b.letters;
-    let l = letter_files(a, first, b, second);
-    let count = l.count;
-    let one = l.first;
-    let two = l.second;
-    let letters = l.letters;
-    write_join(
-        kind,
-        out,
-        a,
-        first,
-        &one[0..m],
-        b,
-        second,
-        &two[0..n],
-        &letters[0..count],
-    )
+    flags_at(b)
 }
 
 // Writes an automaton that accepts the words of either: a new state 0 with an empty move into each.
@@ -99,20 +45,21 @@ pub fn union(first: &[u8], second: &[u8], out: &mut [u8]) -> Written
 {
     match read_files(first, second) {
         Files::Fault(number, automaton) => Written::Refused(number, automaton),
-        Files::Alike(a, b) => {
-            let end = flags_at(a);
-            join_union::unite(
-                out,
-                a,
-                first,
-                &first[0..0],
-                b,
-                second,
-                &second[0..0],
-                &first[12..end],
-            )
+        Files::Valid(agree, a, b) => {
+            let letters = count_letters(agree, a, first, b, second);
+            if 64 < letters {
+                return Written::Refused(11, 0);
+            }
+            let answer = join_union::unite(out, a, first, b, second, letters);
+            if agree {
+                return answer;
+            }
+            let Written::Bytes(_) = answer else {
+                return answer;
+            };
+            put_letters(out, first, second, true);
+            answer
         }
-        Files::Apart(a, b) => join_apart(Kind::Union, out, a, first, b, second),
     }
 }
 
@@ -127,20 +74,21 @@ pub fn concatenate(first: &[u8], second: &[u8], out: &mut [u8]) -> Written
 {
     match read_files(first, second) {
         Files::Fault(number, automaton) => Written::Refused(number, automaton),
-        Files::Alike(a, b) => {
-            let end = flags_at(a);
-            join_concatenation::append(
-                out,
-                a,
-                first,
-                &first[0..0],
-                b,
-                second,
-                &second[0..0],
-                &first[12..end],
-            )
+        Files::Valid(agree, a, b) => {
+            let letters = count_letters(agree, a, first, b, second);
+            if 64 < letters {
+                return Written::Refused(11, 0);
+            }
+            let answer = join_concatenation::append(out, a, first, b, second, letters);
+            if agree {
+                return answer;
+            }
+            let Written::Bytes(_) = answer else {
+                return answer;
+            };
+            put_letters(out, first, second, true);
+            answer
         }
-        Files::Apart(a, b) => join_apart(Kind::Concatenation, out, a, first, b, second),
     }
 }
 
@@ -155,20 +103,30 @@ pub fn intersect(first: &[u8], second: &[u8], out: &mut [u8]) -> Written
 {
     match read_files(first, second) {
         Files::Fault(number, automaton) => Written::Refused(number, automaton),
-        Files::Alike(a, b) => {
-            let end = flags_at(a);
-            join_intersection::product(
+        Files::Valid(agree, a, b) => {
+            let letters = count_letters(agree, a, first, b, second);
+            if 64 < letters {
+                return Written::Refused(11, 0);
+            }
+            let end = others_end(agree, b);
+            let answer = join_intersection::product(
                 out,
                 a,
                 first,
-                &first[0..0],
                 b,
                 second,
-                &second[0..0],
-                &first[12..end],
-            )
+                &second[12..end],
+                letters,
+            );
+            if agree {
+                return answer;
+            }
+            let Written::Bytes(_) = answer else {
+                return answer;
+            };
+            put_letters(out, first, second, false);
+            answer
         }
-        Files::Apart(a, b) => join_apart(Kind::Intersection, out, a, first, b, second),
     }
 }
 

@@ -1,3 +1,4 @@
 pub mod ConcatenationBytes
 pub mod ConcatenationFits
+pub mod ConcatenationPut
 pub mod Laws

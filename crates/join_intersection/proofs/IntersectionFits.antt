@@ -1,5 +1,5 @@
 -- IntersectionFits: an intersection that is not beyond a limit is within the limits of a file, where the two automata are.
-use mathlib.Core.Path.{_≡_, ap}
+use mathlib.Core.Path.{_≡_}
 use mathlib.Core.Bool.{false}
 use mathlib.Core.List.{List, [], _∷_, _++_, flatMap, map}
 use mathlib.Core.Option.{none}
@@ -19,7 +19,7 @@ use Rattle.file_arc_writing.proofs.Laws.{ops-unmoved}
 use Rattle.join_parts.specs.Joining.{beyond}
 use Rattle.join_parts.proofs.Laws.{FewOps, Room, arc-moved, each-flatMap, each-imply, each-keep, each-map, ops-moved, within}
 use Rattle.join_product_count.proofs.Laws.{joint-ops}
-use Rattle.join_intersection.proofs.IntersectionBytes.{intersection-counts}
+use Rattle.join_intersection.proofs.IntersectionBytes.{intersection-states}
 use Rattle.join_product_arcs.proofs.Laws.{pair-below}
 
 each-apply : {A : Type 0} (P Q : A → Type 0) (l : List A) → Each (λ (x : A). P x → Q x) l → Each P l → Each Q l
@@ -57,9 +57,6 @@ module _ (a b : Automaton) (fa : Fits a) (fb : Fits b) (shared : SameLetters a b
   abbrev Pending : Arc → Type 0
   Pending z = FewOps z → ArcFits d z
 
-  pub intersection-states : d .states ≡ ca .states * cb .states
-  intersection-states = ap (λ (c : Counts). c .states) (intersection-counts a b)
-
   room-left : Room 0 ca d
   unfolding intersection
   room-left = record { registers = omega (arith, fb .ranges .some-register); symbols = omega arith; letters = omega arith }
@@ -69,7 +66,7 @@ module _ (a b : Automaton) (fa : Fits a) (fb : Fits b) (shared : SameLetters a b
   room-right = record { registers = omega (arith, fa .ranges .some-register); symbols = omega arith; letters = omega (arith, same-many a b shared) }
 
   pair-small : (i j : ℕ) → i < ca .states → j < cb .states → i * cb .states + j < d .states
-  pair-small i j p q = omega (arith, intersection-states, pair-below i (ca .states) j (cb .states) p q)
+  pair-small i j p q = omega (arith, intersection-states a b, pair-below i (ca .states) j (cb .states) p q)
 
   joint-fits : (x y : Arc) → ArcFits ca x → ArcFits cb y → Pending (arcBoth (cb .states) k x y)
   unfolding intersection
@@ -139,7 +136,7 @@ module _ (a b : Automaton) (fa : Fits a) (fb : Fits b) (shared : SameLetters a b
       let f = within (intersection a b) e in
       fits-by (intersection a b) (record {
         letters = ra .letters;
-        some-state = omega (arith, intersection-states, one-le-mul (ra .some-state) (rb .some-state));
+        some-state = omega (arith, intersection-states a b, one-le-mul (ra .some-state) (rb .some-state));
         states = f .0 .states;
         some-register = omega (arith, ra .some-register, rb .some-register);
         registers = f .0 .registers;

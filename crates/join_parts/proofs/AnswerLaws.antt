@@ -1,9 +1,8 @@
 -- AnswerLaws: what the answer for a joined automaton says: 11, 25 or its length, each exactly where it holds.
 use mathlib.Core.Path.{_≡_, refl, ap, ap₂, sym}
-use mathlib.Core.Logic.{_⊎_}
 use mathlib.Core.Bool.{Bool, false, true}
 use mathlib.Core.List.{List}
-use Prim.Native.Nat.{_≤_, ℕ}
+use Prim.Native.Nat.{_<_, _≤_, ℕ}
 use native.Mathlib.Omega.{arith}
 use borrow.Author.Tests.{le-ltb, lt-ltb, ltb-false}
 use lib.Dec.{ltb}
@@ -20,9 +19,9 @@ use Rattle.format.specs.Decoding.{automatonOf}
 use Rattle.format.specs.Encoding.{bytesOf, sizes}
 use Rattle.file_laws.proofs.Laws.{has-fault}
 use Rattle.file_writing.specs.declared.Written.the-variants.{Bytes, Refused}
-use Rattle.file_pair.specs.declared.Files.the-variants.{Alike, Apart, Fault}
-use Rattle.file_pair.specs.Pair.{filesOf}
-use Rattle.file_pair.proofs.Laws.{files-passed, files-refused}
+use Rattle.file_pair.specs.declared.Files.the-variants.{Fault, Valid as BothValid}
+use Rattle.file_pair.specs.Pair.{filesOf, lettersOf}
+use Rattle.file_pair.proofs.Laws.{files-many, files-passed, files-refused}
 use Rattle.join_parts.specs.Joining.{automatonRefusals, beyond, closedOf, decided, joinOf, joinedOf, manyCounts, writtenOf}
 use Rattle.join_parts.proofs.WithinLimits.{FewOps, beyond-counts}
 
@@ -47,7 +46,7 @@ module _ (x : Automaton) (space : ℕ) where
   unfolding writtenOf
   decided-written c size h n l = sym (rw (beyond-counts x h) (ap₂ (λ (d : Counts) (m : ℕ). decided (manyCounts d) m space) n l))
 
--- ---- a call's answer, by what the files are: their refusal, or the answer for the joined automaton
+-- ---- a call's answer, by what the files are: their refusal; 11, more than 64 letters together; or the answer for the joined automaton
 module _ (join : Automaton → Automaton → Automaton) (s t : List ℕ) (space : ℕ) where
   abbrev x : Automaton
   x = joinOf join s t
@@ -56,9 +55,14 @@ module _ (join : Automaton → Automaton → Automaton) (s t : List ℕ) (space 
   unfolding joinedOf
   joined-fault e = files-refused s t Refused (automatonRefusals x space) (Bytes (length (bytesOf x))) e
 
-  pub joined-both : {a b : Counts} → (filesOf s t ≡ Alike a b) ⊎ (filesOf s t ≡ Apart a b) → joinedOf join s t space ≡ writtenOf x space
-  unfolding joinedOf writtenOf
-  joined-both e = files-passed s t Refused (automatonRefusals x space) (Bytes (length (bytesOf x))) e
+  module _ {agree : Bool} {a b : Counts} (e : filesOf s t ≡ BothValid agree a b) where
+    pub joined-many : 64 < length (lettersOf s t) → joinedOf join s t space ≡ Refused 11 0
+    unfolding joinedOf
+    joined-many h = files-many s t Refused (automatonRefusals x space) (Bytes (length (bytesOf x))) e h
+
+    pub joined-both : length (lettersOf s t) ≤ 64 → joinedOf join s t space ≡ writtenOf x space
+    unfolding joinedOf writtenOf
+    joined-both h = files-passed s t Refused (automatonRefusals x space) (Bytes (length (bytesOf x))) e h
 
 -- the same of closure's one file
 module _ (s : List ℕ) (space : ℕ) where

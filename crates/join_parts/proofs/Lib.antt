@@ -4,6 +4,10 @@ pub mod AnswerLaws
 pub mod MovedFits
 pub mod ArcWalk
 pub mod NewLetters
+pub mod LettersPut
+pub mod OwnJoins
+pub mod InPlace
+pub mod RoomyLaws
 pub mod ArcLengths
 pub mod FinalFlags
 pub mod Laws

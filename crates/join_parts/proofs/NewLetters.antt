@@ -1,4 +1,4 @@
--- NewLetters: arcs with the new numbers of their letters: their bytes, and how many these are; and automata over the same letters.
+-- NewLetters: arcs with the new numbers of their letters: the byte of a letter, and how many bytes they take; and automata over the same letters.
 use mathlib.Core.Path.{_∙_, _≡_, ap₂, refl, sym}
 use mathlib.Core.Bool.{Bool, false, true}
 use mathlib.Core.List.{List, [], _∷_, map}
@@ -8,14 +8,12 @@ use native.Mathlib.Omega.{arith}
 use borrow.Author.Tests.{eqb-true}
 use lib.Dec.{eqb}
 use lib.ListN.{length, length-append}
-use Rattle.automata.specs.Automaton.{Arc, Automaton, Op}
-use Rattle.automata.specs.Joins.{arcFrom}
+use Rattle.automata.specs.Automaton.{Arc, Automaton}
 use Rattle.automata.specs.Words.{SameLetters}
 use Rattle.relettering.specs.Relettering.{letterBy, reletteredArc, withLetters}
 use Rattle.relettering.proofs.Laws.{arc-unnumbered, number-beyond}
 use Rattle.format.specs.Decoding.{letterOf}
 use Rattle.format.specs.Encoding.{arcBytes, arcsBytes, letterByte}
-use Rattle.file_laws.proofs.Laws.{letter-same}
 use Rattle.file_arc_writing.proofs.Laws.{arc-length}
 
 module _ (new : List ℕ) where
@@ -39,21 +37,11 @@ module _ (new : List ℕ) where
         go true f = let e = eqb-true x 255 f in rw f (sym (number-beyond new x (omega arith) ∙ e))
         go false f = rw f
 
-    -- so its bytes are those of an arc with the new number of the letter's byte
-    pub relettered-bytes : (s x t : ℕ) (ops : List Op) → arcBytes (arcFrom s (letterOf (letterBy new x)) t ops) ≡ arcBytes (arcFrom s (Option·map (letterBy new) (letterOf x)) t ops)
-    unfolding arcBytes
-    relettered-bytes s x t ops = rw (letter-same (letterBy new x), letter-byte x)
-
 -- by no new numbers arcs are as they were
 pub arcs-unnumbered : (new : List ℕ) (l : List Arc) → length new ≡ 0 → map (reletteredArc new) l ≡ l
 arcs-unnumbered (x ∷ new) l e = absurd (omega arith)
 arcs-unnumbered [] [] e = refl
 arcs-unnumbered [] (a ∷ l) e = ap₂ (λ (b : Arc) (r : List Arc). b ∷ r) (arc-unnumbered a) (arcs-unnumbered [] l e)
-
--- an automaton over other letters: its arcs take as many bytes as they took
-pub over-length : (new all : List ℕ) (x : Automaton) → length (arcsBytes (withLetters new all x .arcs)) ≡ length (arcsBytes (x .arcs))
-unfolding withLetters
-over-length new all x = relettered-length new (x .arcs)
 
 -- two automata over the same letters
 pub over-same : (one two all : List ℕ) (x y : Automaton) → SameLetters (withLetters one all x) (withLetters two all y)

@@ -5,3 +5,4 @@ pub mod answer;
 pub mod finals;
 pub mod flags;
 pub mod groups;
+pub mod letters;

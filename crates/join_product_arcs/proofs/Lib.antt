@@ -1,4 +1,3 @@
 pub mod BesideArcs
-pub mod JointLetters
 pub mod PairNumber
 pub mod Laws

@@ -2,14 +2,20 @@
 use mathlib.Core.List.{List, map}
 use mathlib.Core.Option.{none}
 use Prim.Native.Nat.{ℕ, _+_, _*_, _<_, _≤_}
-use lib.ListN.{length, drop}
+use lib.ListN.{drop, getD, length}
 use Rattle.automata.specs.Automaton.{Arc}
 use Rattle.automata.specs.Joins.{arcFrom, movedOp}
 use Rattle.file_fields.specs.Parts.{arcSize}
-use Rattle.format.specs.Decoding.{arcOf, letterOf}
+use Rattle.format.specs.Decoding.{arcOf}
+use Rattle.file_arc_writing.specs.Arcs.{KnownOps}
 use Rattle.join_product_arcs.specs.declared.beside.Beside.{Beside}
 
--- a joint arc can be written: the arcs stand whole at their places, its states and the number of its operations are bytes
+-- each operation of the arc at a place is a read or a write
+abbrev pub KnownAt : (s : List ℕ) (from : ℕ) → Type 0
+KnownAt s from = KnownOps (getD s (from + 3) 0) (drop (from + 4) s)
+
+-- a joint arc can be written: the arcs stand whole at their places, its states and the number of its operations are bytes, and each
+-- operation is a read or a write
 pub record Writable (n k : ℕ) (s : List ℕ) (from : ℕ) (t : List ℕ) (other : ℕ) : Type 0 where
   pub first : from + arcSize (drop from s) ≤ length s
   pub second : other + arcSize (drop other t) ≤ length t
@@ -17,10 +23,8 @@ pub record Writable (n k : ℕ) (s : List ℕ) (from : ℕ) (t : List ℕ) (othe
   pub target : arcOf (drop from s) .target * n + arcOf (drop other t) .target < 256
   pub ops : length (arcOf (drop from s) .ops) + length (arcOf (drop other t) .ops) < 256
   pub shift : k ≤ 8
-
--- an arc with the letter of this byte
-abbrev pub lettered : ℕ → Arc → Arc
-lettered u x = arcFrom (x .source) (letterOf u) (x .target) (x .ops)
+  pub first-kinds : KnownAt s from
+  pub second-kinds : KnownAt t other
 
 -- an empty move beside state i of the other automaton
 abbrev pub besideArc : Beside → Arc → ℕ → Arc

@@ -10,7 +10,7 @@ ghost use Rattle.format.specs.Reading.{readingOf};
 ghost use Rattle.format.specs.Decoding.{arcOf, automatonOf};
 ghost use Rattle.format.specs.Encoding.{arcBytes, arcsBytes};
 ghost use Rattle.file_writing.specs.Placing.{Appended};
-ghost use Rattle.join_product_arcs.specs.JointArcs.{besideArc};
+ghost use Rattle.join_product_arcs.specs.JointArcs.{KnownAt, besideArc};
 ghost use Rattle.join_product_count.specs.ProductArcs.{emptyWith};
 use file_arc_writing::Fields;
 use file_arc_writing::write_arc;
@@ -30,7 +30,7 @@ pub struct Beside {
 
 // The empty move at a place of a file, beside state i. Cost: its operations.
 fn write_beside(out: &mut [u8], at: usize, file: &[u8], from: usize, b: Beside, i: usize) -> usize
-    requires { ⌜ (from + arcSize (drop from (now file)) ≤ length (now file)) × (arcOf (drop from (now file)) .source * b .scale + i * b .step < 256) × (arcOf (drop from (now file)) .target * b .scale + i * b .step < 256) × (b .shift ≤ 8) × (at + arcSize (drop from (now file)) ≤ length (now out)) ⌝ }
+    requires { ⌜ (from + arcSize (drop from (now file)) ≤ length (now file)) × (arcOf (drop from (now file)) .source * b .scale + i * b .step < 256) × (arcOf (drop from (now file)) .target * b .scale + i * b .step < 256) × (b .shift ≤ 8) × (at + arcSize (drop from (now file)) ≤ length (now out)) × KnownAt (now file) from ⌝ }
     ensures { λ r. ⌜ Appended at (arcBytes (besideArc b (arcOf (drop from (now (file .entry)))) i)) (now (out .entry)) (now (out .exit)) r ⌝ }
 {
     let f = Fields {
@@ -45,7 +45,7 @@ fn write_beside(out: &mut [u8], at: usize, file: &[u8], from: usize, b: Beside, 
 
 // The empty move at a place of a file, beside each state, ascending. Cost: the bytes written.
 fn write_beside_each(out: &mut [u8], at: usize, file: &[u8], from: usize, b: Beside) -> usize
-    requires { ⌜ (from + arcSize (drop from (now file)) ≤ length (now file)) × ((i : ℕ) → i < b .states → arcOf (drop from (now file)) .source * b .scale + i * b .step < 256) × ((i : ℕ) → i < b .states → arcOf (drop from (now file)) .target * b .scale + i * b .step < 256) × (b .shift ≤ 8) × (at + length (arcsBytes (map (besideArc b (arcOf (drop from (now file)))) (countFrom 0 (b .states)))) ≤ length (now out)) ⌝ }
+    requires { ⌜ (from + arcSize (drop from (now file)) ≤ length (now file)) × ((i : ℕ) → i < b .states → arcOf (drop from (now file)) .source * b .scale + i * b .step < 256) × ((i : ℕ) → i < b .states → arcOf (drop from (now file)) .target * b .scale + i * b .step < 256) × (b .shift ≤ 8) × (at + length (arcsBytes (map (besideArc b (arcOf (drop from (now file)))) (countFrom 0 (b .states)))) ≤ length (now out)) × KnownAt (now file) from ⌝ }
     ensures { λ r. ⌜ Appended at (arcsBytes (map (besideArc b (arcOf (drop from (now (file .entry))))) (countFrom 0 (b .states)))) (now (out .entry)) (now (out .exit)) r ⌝ }
 {
     let mut to = at;

@@ -1,32 +1,24 @@
--- ArcGroups: the arcs of an intersection are joint arcs, empty moves of the first, empty moves of the second.
-use mathlib.Core.Path.{_≡_, _∙_, refl, sym}
-use mathlib.Core.List.{List, [], _++_, flatMap, map}
+-- ArcGroups: the arcs of the intersection of an automaton with one over other letters, group by group: joint arcs, empty moves of the first,
+-- empty moves of the second. New numbers change no empty move.
+use mathlib.Core.Path.{_≡_, refl}
+use mathlib.Core.List.{List, flatMap, map}
 use Prim.Native.Nat.{ℕ, _-_}
 use Rattle.automata.specs.Automaton.{Automaton, states}
-use Rattle.automata.specs.Joins.{arcLeft, arcRight, bothArcs, intersection, leftArcs, rightArcs}
+use Rattle.automata.specs.Joins.{arcLeft, arcRight, bothArcs, leftArcs, rightArcs}
 use Rattle.relettering.specs.Relettering.{reletteredArc, withLetters}
-use Rattle.format.specs.Decoding.{automatonOf}
-use Rattle.file_pair.specs.Lettered.{automatonOver}
-use Rattle.join_product_count.specs.ProductArcs.{emptyWith, jointWith, productArcs}
+use Rattle.join_product_count.specs.ProductArcs.{emptyWith, jointWith}
 use Rattle.join_product_count.proofs.ProductArcLaws.{empty-relettered}
 
-module _ (a b : Automaton) {m n k : ℕ} (sa : states a ≡ m) (sb : states b ≡ n) (ra : a .registers - 1 ≡ k) where
-  pub arc-groups : intersection a b .arcs ≡ flatMap (jointWith n k (b .arcs)) (a .arcs) ++ (emptyWith (arcLeft n) n (a .arcs) ++ emptyWith (arcRight n k) m (b .arcs))
-  unfolding intersection bothArcs leftArcs rightArcs
-  arc-groups = rw (sa, sb, ra)
+module _ (x y : Automaton) (new all : List ℕ) {n : ℕ} (sy : states y ≡ n) where
+  pub left-group : leftArcs x (withLetters new all y) ≡ emptyWith (arcLeft n) n (x .arcs)
+  unfolding leftArcs withLetters
+  left-group = rw sy
 
--- the same of two automata by new numbers, which change no empty move
-module _ (x y : Automaton) (one two all : List ℕ) {m n k : ℕ} (sx : states x ≡ m) (sy : states y ≡ n) (rx : x .registers - 1 ≡ k) where
-  pub over-groups : intersection (withLetters one all x) (withLetters two all y) .arcs
-      ≡ flatMap (jointWith n k (map (reletteredArc two) (y .arcs))) (map (reletteredArc one) (x .arcs)) ++ (emptyWith (arcLeft n) n (x .arcs) ++ emptyWith (arcRight n k) m (y .arcs))
-  unfolding withLetters
-  over-groups =
-      arc-groups (withLetters one all x) (withLetters two all y) sx sy rx
-      ∙ rw (empty-relettered (arcLeft n) n one (λ z. refl) (x .arcs), empty-relettered (arcRight n k) m two (λ z. refl) (y .arcs))
+  module _ {k : ℕ} (rx : x .registers - 1 ≡ k) where
+    pub joint-group : bothArcs x (withLetters new all y) ≡ flatMap (jointWith n k (map (reletteredArc new) (y .arcs))) (x .arcs)
+    unfolding bothArcs withLetters
+    joint-group = rw (sy, rx)
 
--- the letters that they are over are on none of the arcs
-pub product-arcs : (one two all first second : List ℕ) → intersection (automatonOver one all first) (automatonOver two all second) .arcs ≡ productArcs one two first second
-product-arcs one two all first second =
-    let x = automatonOf first in
-    let y = automatonOf second in
-    over-groups x y one two all refl refl refl ∙ sym (over-groups x y one two [] refl refl refl)
+    pub right-group : {m : ℕ} → states x ≡ m → rightArcs x (withLetters new all y) ≡ emptyWith (arcRight n k) m (y .arcs)
+    unfolding rightArcs withLetters
+    right-group {m} sx = rw (sx, sy, rx) (empty-relettered (arcRight n k) m new (λ z. refl) (y .arcs))

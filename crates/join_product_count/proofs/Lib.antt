@@ -1,6 +1,5 @@
-pub mod OwnLetters
+pub mod OtherLetters
 pub mod ProductArcLaws
 pub mod ArcGroups
-pub mod Matching
 pub mod Uncounted
 pub mod Laws

@@ -1,7 +1,7 @@
 -- Uncounted: counts of arcs: what is left to count of a list, one step of it, and the counts of a single arc and of equally long ones.
 use mathlib.Core.Path.{_≡_, _∙_, ap, refl, sym}
-use mathlib.Core.Bool.{Bool, false, _||_, or-assoc, or-false}
-use mathlib.Core.List.{List, [], _∷_, _++_, map}
+use mathlib.Core.Bool.{Bool, false, true, _||_, or-assoc, or-false, or-true}
+use mathlib.Core.List.{List, [], _∷_, _++_, flatMap, map}
 use Prim.Native.Nat.{ℕ, suc, zero, max, _+_, _*_, _<_, _≤_}
 use native.Mathlib.Decide.{decLt}
 use native.Mathlib.Nat.{suc-mul, zero-mul}
@@ -23,6 +23,9 @@ unfolding any
 any-append t [] r = refl
 any-append t (x ∷ l) r = rw (any-append t l r) (sym (or-assoc (t x) (any t l) (any t r)))
 
+size-append : (l r : List Arc) → length (arcsBytes (l ++ r)) ≡ length (arcsBytes l) + length (arcsBytes r)
+size-append l r = ap length (arcs-append l r) ∙ length-append (arcsBytes l) (arcsBytes r)
+
 -- of the count of `all`, that of `rest` is left
 pub record Uncounted (t : Tally) (rest all : List Arc) : Type 0 where
   pub arcs : t .arcs + length rest ≡ length all
@@ -39,7 +42,7 @@ both t u = record { arcs = t .arcs + u .arcs; size = t .size + u .size; many = t
 pub uncounted-less : {t u : Tally} {all : List Arc} (part rest : List Arc) → Tallied u part → Uncounted t (part ++ rest) all → Uncounted (both t u) rest all
 uncounted-less {t} {u} part rest p c = record {
   arcs = omega (arith, p .arcs, c .arcs, length-append part rest);
-  size = omega (arith, p .size, c .size, ap length (arcs-append part rest), length-append (arcsBytes part) (arcsBytes rest));
+  size = omega (arith, p .size, c .size, size-append part rest);
   many = ap (λ (b : Bool). t .many || b || any manyOps rest) (p .many) ∙ or-assoc (t .many) (any manyOps part) (any manyOps rest) ∙ ap (λ (b : Bool). t .many || b) (sym (any-append manyOps part rest)) ∙ c .many;
 }
 
@@ -52,15 +55,43 @@ uncounted-none {t} c = record { arcs = omega (arith, c .arcs); size = omega (ari
 pub tallied-append : {t u : Tally} (l r : List Arc) → Tallied t l → Tallied u r → Tallied (both t u) (l ++ r)
 tallied-append l r p q = record {
   arcs = omega (arith, p .arcs, q .arcs, length-append l r);
-  size = omega (arith, p .size, q .size, ap length (arcs-append l r), length-append (arcsBytes l) (arcsBytes r));
+  size = omega (arith, p .size, q .size, size-append l r);
   many = rw (p .many, q .many) (sym (any-append manyOps l r));
 }
 
--- ---- counts of few arcs
-pub none-tallied : Tallied (record { arcs = 0; size = 0; many = false }) []
-unfolding arcsBytes any
-none-tallied = record { arcs = refl; size = refl; many = refl }
+-- arcs that are made of each of a list in two ways: one behind the other of each, or those of the one way behind those of the other
+module _ (f g : Arc → List Arc) where
+  abbrev eachBoth : List Arc → List Arc
+  eachBoth = flatMap (λ (x : Arc). f x ++ g x)
 
+  or-swap : (a b c d : Bool) → ((a || b) || (c || d)) ≡ ((a || c) || (b || d))
+  or-swap true b c d = refl
+  or-swap false b true d = or-true b
+  or-swap false true false d = refl
+  or-swap false false false d = refl
+
+  apart-arcs : (l : List Arc) → length (eachBoth l) ≡ length (flatMap f l ++ flatMap g l)
+  unfolding flatMap
+  apart-arcs [] = refl
+  apart-arcs (x ∷ l) = simp length-append (omega (arith, simp length-append at (apart-arcs l)))
+
+  apart-size : (l : List Arc) → length (arcsBytes (eachBoth l)) ≡ length (arcsBytes (flatMap f l ++ flatMap g l))
+  unfolding flatMap
+  apart-size [] = refl
+  apart-size (x ∷ l) = simp size-append (omega (arith, simp size-append at (apart-size l)))
+
+  apart-many : (l : List Arc) → any manyOps (eachBoth l) ≡ any manyOps (flatMap f l ++ flatMap g l)
+  unfolding flatMap
+  apart-many [] = refl
+  apart-many (x ∷ l) =
+      let p = any manyOps (f x) in
+      let q = any manyOps (g x) in
+      simp (any-append manyOps, apart-many l) (or-swap p q (any manyOps (flatMap f l)) (any manyOps (flatMap g l)))
+
+  pub tallied-apart : {t : Tally} (l : List Arc) → Tallied t (eachBoth l) → Tallied t (flatMap f l ++ flatMap g l)
+  tallied-apart l p = record { arcs = p .arcs ∙ apart-arcs l; size = p .size ∙ apart-size l; many = p .many ∙ apart-many l }
+
+-- ---- counts of few arcs
 pub one-tallied : (x : Arc) (p : ℕ) → length (x .ops) ≡ p → Tallied (record { arcs = 1; size = 4 + 2 * p; many = ltb 8 p }) (x ∷ [])
 unfolding arcsBytes any
 one-tallied x p e = record {

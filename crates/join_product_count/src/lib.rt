@@ -1,17 +1,17 @@
 // join_product_count: the arcs of an intersection, group by group (document 01, 'Joining books'): how many they are, how many bytes they take,
-// and whether one has more than 8 operations, before any is written.
+// and whether one has more than 8 operations, before any is written. They have the numbers of the first file's letters (document 02, change 6).
 ghost use mathlib.Core.Path.{_≡_};
-ghost use mathlib.Core.List.{flatMap, map};
+ghost use mathlib.Core.List.{_++_};
 ghost use Prim.Native.Nat.{ℕ, _+_, _<_, _≤_};
 ghost use lib.ListN.{length, drop};
 ghost use Rattle.automata.specs.Automaton.{Arc};
-ghost use Rattle.relettering.specs.Relettering.{letterBy, reletteredArc};
+ghost use Rattle.automata.specs.Joins.{bothArcs, leftArcs};
 ghost use Rattle.file_fields.specs.declared.Reading.the-variants.{Valid};
-ghost use Rattle.file_fields.specs.Parts.{arcSize};
 ghost use Rattle.format.specs.Reading.{readingOf};
 ghost use Rattle.format.specs.Decoding.{arcOf, automatonOf};
-ghost use Rattle.join_product_count.specs.ProductArcs.{Findable, LetterMatched, Matched, Matches, Tallied, emptyWith, jointWith, ownLetter, productArcs};
-use file_letters::numbering::new_letter;
+ghost use Rattle.join_parts.specs.OwnNumbers.{byFirst};
+ghost use Rattle.join_product_count.specs.ProductArcs.{FirstArc, Matchable, OtherLetter, Tallied, emptyWith, firstWith, productOf};
+use file_letters::numbering::place_of;
 use format::Counts;
 use format::fields::arc_size;
 use format::fields::byte;
@@ -25,75 +25,35 @@ pub struct Tally {
     pub many: bool,
 }
 
-// A file's own number of the letter with the new number n. Refuses nothing. Cost: its letters; where no number changes, constant.
-fn own_letter(new: &[u8], n: usize) -> usize
-    ensures { λ r. ⌜ r ≡ ownLetter (now (new .entry)) n ⌝ }
+// The second file's number of a letter of the first, found among the second's letters; where the lists agree none are lent, and it is the
+// same number. It is a byte for the compiler too, so that bytes are compared with it. Refuses nothing. Cost: the second's letters; where the
+// lists agree, constant.
+pub fn other_letter(first: &[u8], others: &[u8], letter: usize) -> u8
+    requires { ⌜ (letter < 64) × (12 + letter < length (now first)) × (length (now others) ≤ 64) ⌝ }
+    ensures { λ r. ⌜ OtherLetter (now (first .entry)) (now (others .entry)) letter r ⌝ }
 {
-    if new.len() == 0 {
-        return n;
+    if others.len() == 0 {
+        return letter as u8;
     }
-    let mut i: usize = 0;
-    while i < new.len() {
-        if n == byte(new, i) {
-            return i;
-        }
-        i += 1;
-    }
-    i
+    place_of(others, first[12 + letter]) as u8
 }
 
-// The letters of a first file with the counts a, matched once before its arcs are paired: the second file's own number of each. What stands
-// behind them means nothing. Refuses nothing. Cost: the pairs of letters.
-pub fn match_letters(a: Counts, one: &[u8], two: &[u8]) -> [u8; 64]
-    requires { ⌜ (a .letters ≤ 64) × (length (now two) ≤ 64) ⌝ }
-    ensures { λ r. ⌜ (length r ≡ 64) × ((l : ℕ) → l < a .letters → Matches (now (one .entry)) (now (two .entry)) r l) ⌝ }
-{
-    let mut matched = [0; 64];
-    let mut l: usize = 0;
-    while l < a.letters {
-        matched[l] = own_letter(two, new_letter(one, l)) as u8;
-        l += 1;
-    }
-    matched
-}
-
-// The second file's own number of a letter of the first, by the table. It is a byte for the compiler too, so that bytes are compared with
-// it. Cost: constant.
-pub fn matched_letter(matched: &[u8], letter: usize) -> u8
-    requires { ⌜ letter < 256 ⌝ }
-    ensures { λ r. ⌜ r ≡ letterBy (now (matched .entry)) letter ⌝ }
-{
-    if letter < matched.len() {
-        matched[letter]
-    } else {
-        letter as u8
-    }
-}
-
-// The arc at a place of the first file with each arc of the second of its letter. Operations are added up, and the most of one arc is kept,
-// since the inner loop is the dearest one. Cost: the arcs of the second.
-fn count_joint(
-    first: &[u8],
-    one: &[u8],
-    from: usize,
-    b: Counts,
-    second: &[u8],
-    two: &[u8],
-    matched: &[u8],
-) -> Tally
-    requires { ⌜ (from + arcSize (drop from (now first)) ≤ length (now first)) × LetterMatched (now one) (now two) (now matched) (arcOf (drop from (now first))) × Findable b (now second) (now two) ⌝ }
-    ensures { λ r. ⌜ ((n k : ℕ) → Tallied r (jointWith n k (map (reletteredArc (now (two .entry))) (automatonOf (now (second .entry)) .arcs)) (reletteredArc (now (one .entry)) (arcOf (drop from (now (first .entry))))))) × (r .arcs ≤ 2048) × (r .size ≤ 2097152) ⌝ }
+// The arc at a place of the first file with each arc of the second of its letter; where it is an empty move, beside each state of the second.
+// Operations are added up, and the most of one arc is kept, since the inner loop is the dearest one. Cost: the arcs of the second.
+fn count_joint(first: &[u8], from: usize, b: Counts, second: &[u8], others: &[u8]) -> Tally
+    requires { ⌜ FirstArc b (now first) (now second) (now others) from ⌝ }
+    ensures { λ r. ⌜ ((k : ℕ) → Tallied r (firstWith (b .states) k (byFirst (now (first .entry)) (now (others .entry)) (now (second .entry)) .arcs) (arcOf (drop from (now (first .entry)))))) × (r .arcs ≤ 2048) × (r .size ≤ 2097152) ⌝ }
 {
     let letter = byte(first, from + 1);
     let p = byte(first, from + 3);
     if letter == 255 {
         return Tally {
-            arcs: 0,
-            size: 0,
+            arcs: b.states,
+            size: b.states * (4 + 2 * p),
             many: false,
         };
     }
-    let own = matched_letter(matched, letter) as usize;
+    let own = other_letter(first, others, letter) as usize;
     let mut arcs: usize = 0;
     let mut sum: usize = 0;
     let mut most: usize = 0;
@@ -116,18 +76,11 @@ fn count_joint(
     }
 }
 
-// Each lettered arc of the first with each arc of the second of its letter. Cost: for each arc of the first, the arcs of the second.
-fn count_lettered(
-    a: Counts,
-    first: &[u8],
-    one: &[u8],
-    b: Counts,
-    second: &[u8],
-    two: &[u8],
-    matched: &[u8],
-) -> Tally
-    requires { ⌜ Matched a b (now first) (now second) (now one) (now two) (now matched) ⌝ }
-    ensures { λ r. ⌜ ((n k : ℕ) → Tallied r (flatMap (jointWith n k (map (reletteredArc (now (two .entry))) (automatonOf (now (second .entry)) .arcs))) (map (reletteredArc (now (one .entry))) (automatonOf (now (first .entry)) .arcs)))) × (r .arcs ≤ 4194304) × (r .size ≤ 4294967296) ⌝ }
+// All arcs of the intersection that the arcs of the first give: each lettered one with each arc of the second of its letter, each empty move
+// beside each state of the second. Cost: for each arc of the first, the arcs of the second.
+fn count_first(a: Counts, first: &[u8], b: Counts, second: &[u8], others: &[u8]) -> Tally
+    requires { ⌜ Matchable a b (now first) (now second) (now others) ⌝ }
+    ensures { λ r. ⌜ Tallied r (bothArcs (automatonOf (now (first .entry))) (byFirst (now (first .entry)) (now (others .entry)) (now (second .entry))) ++ leftArcs (automatonOf (now (first .entry))) (byFirst (now (first .entry)) (now (others .entry)) (now (second .entry)))) × (r .arcs ≤ 4194304) × (r .size ≤ 4294967296) ⌝ }
 {
     let mut arcs: usize = 0;
     let mut size: usize = 0;
@@ -135,7 +88,7 @@ fn count_lettered(
     let mut from = first_arc(a);
     let mut i: usize = 0;
     while i < a.arcs {
-        let t = count_joint(first, one, from, b, second, two, matched);
+        let t = count_joint(first, from, b, second, others);
         arcs += t.arcs;
         size += t.size;
         many = many | t.many;
@@ -170,25 +123,16 @@ fn count_empty(c: Counts, file: &[u8], n: usize) -> Tally
     }
 }
 
-// All arcs of the intersection, by the new numbers of the letters. Cost: for each arc of the first, the arcs of the second.
-pub fn count_arcs(
-    a: Counts,
-    first: &[u8],
-    one: &[u8],
-    b: Counts,
-    second: &[u8],
-    two: &[u8],
-    matched: &[u8],
-) -> Tally
-    requires { ⌜ Matched a b (now first) (now second) (now one) (now two) (now matched) ⌝ }
-    ensures { λ r. ⌜ Tallied r (productArcs (now (one .entry)) (now (two .entry)) (now (first .entry)) (now (second .entry))) × (r .arcs ≤ 5242880) × (r .size ≤ 4836032512) ⌝ }
+// All arcs of the intersection, by the numbers of the first file's letters. Cost: for each arc of the first, the arcs of the second.
+pub fn count_arcs(a: Counts, first: &[u8], b: Counts, second: &[u8], others: &[u8]) -> Tally
+    requires { ⌜ Matchable a b (now first) (now second) (now others) ⌝ }
+    ensures { λ r. ⌜ Tallied r (productOf (now (first .entry)) (now (others .entry)) (now (second .entry)) .arcs) × (r .arcs ≤ 4718592) × (r .size ≤ 4565499904) ⌝ }
 {
-    let joint = count_lettered(a, first, one, b, second, two, matched);
-    let left = count_empty(a, first, b.states);
+    let joint = count_first(a, first, b, second, others);
     let right = count_empty(b, second, a.states);
     Tally {
-        arcs: joint.arcs + left.arcs + right.arcs,
-        size: joint.size + left.size + right.size,
-        many: joint.many | left.many | right.many,
+        arcs: joint.arcs + right.arcs,
+        size: joint.size + right.size,
+        many: joint.many | right.many,
     }
 }

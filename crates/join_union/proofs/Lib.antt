@@ -1,3 +1,4 @@
 pub mod UnionBytes
 pub mod UnionFits
+pub mod UnionPut
 pub mod Laws

@@ -14,6 +14,11 @@ use borrow.Author.Needs.{needs}
 use Rattle.file_arc_writing.proofs.write_joint_arc.Statement.{statement}
 use Rattle.file_arc_writing.proofs.write_joint_arc.Tie as tie
 
+write-ops-requires-2 : tie.Need-write-ops-requires-2
+write-ops-requires-2 c κs =
+    let s = c .before .before .before .before .before .before .before .before .before .before .before .before in
+    (search needs, search needs, search needs, s .pre .7)
+
 returns : tie.Need-returns
 returns c =
     let second = c .before .before in
@@ -51,7 +56,7 @@ write-joint-arc-spec =
     (λ c. search needs)
     (λ c. search needs)
     (λ c. search needs)
-    (λ c κs. search needs)
+    write-ops-requires-2
     (λ c. search needs)
     (λ c. search needs)
     (λ c. search needs)

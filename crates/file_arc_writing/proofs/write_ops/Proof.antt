@@ -24,6 +24,11 @@ loop-holds c =
     let e : s .args .p - 0 ≡ s .args .p = omega arith in
     (omega arith, rw e (left-all (omega (arith, s .pre .2, moved-ops-length (s .args .k) (s .args .p) (s .args .ops .now)))))
 
+moved-operation-requires : tie.Need-moved-operation-requires Inv-loop μ-loop
+moved-operation-requires c κs =
+    let s = c .before .before .before .before .before in
+    (rw (c .byte .ensures .0) (s .pre .3 (c .before .before .loop .i) (omega arith)), s .pre .0)
+
 cast-out : tie.Need-cast-out Inv-loop μ-loop
 cast-out c = omega (arith, c .moved-operation .ensures .1)
 
@@ -64,7 +69,7 @@ write-ops-spec =
     loop-holds
     (λ c. omega arith)
     (λ c κs. omega arith)
-    (λ c κs. omega arith)
+    moved-operation-requires
     cast-out
     (λ c. omega arith)
     slice-write-out

@@ -1,16 +1,12 @@
 -- `file_pair::letter_files` meets its contract: the lists lent are the files' letters.
-use mathlib.Core.Path.{_≡_, ap}
-use mathlib.Core.List.{List}
-use Prim.Native.Nat.{_-_, ℕ}
+use mathlib.Core.Path.{_≡_}
+use Prim.Native.Nat.{_-_}
 use native.Mathlib.Omega.{arith}
 use borrow.Author.Needs.{needs}
-use lib.ListN.{drop, length, take}
-use Rattle.file_fields.specs.declared.Counts.{Counts}
-use Rattle.file_fields.specs.declared.Reading.the-variants.{Valid}
+use lib.ListN.{drop, take}
 use Rattle.format.specs.Decoding.{automatonOf}
-use Rattle.format.specs.Reading.{readingOf}
-use Rattle.file_laws.proofs.Laws.{lent-alphabet, valid-letters, valid-sizes}
-use Rattle.file_pair.proofs.LetteredLaws.{over-apart}
+use Rattle.file_laws.proofs.Laws.{lent-alphabet, valid-letters}
+use Rattle.file_pair.proofs.LetteredLaws.{letters-many}
 use Rattle.file_pair.proofs.letter_files.Statement.{statement}
 use Rattle.file_pair.proofs.letter_files.Tie as tie
 
@@ -23,10 +19,6 @@ lent₁ f = let s = start f in lent-alphabet (s .args .first .now) (s .args .a) 
 
 lent₂ : (f : tie.After-flags-at2) → let a = start f .args in take (f .flags-at2 .result - 12) (drop 12 (a .second .now)) ≡ automatonOf (a .second .now) .alphabet
 lent₂ f = let s = start f in lent-alphabet (s .args .second .now) (s .args .b) (s .pre .second) (f .flags-at2 .result) (f .flags-at2 .ensures)
-
--- as many as the counts say
-many : (file : List ℕ) (c : Counts) → readingOf file ≡ Valid c → length (automatonOf file .alphabet) ≡ c .letters
-many file c e = ap (λ (d : Counts). d .letters) (valid-sizes file c e)
 
 flags-at-requires : tie.Need-flags-at-requires
 flags-at-requires c κs = let s = c .before .before in valid-letters (s .args .first .now) (s .args .a) (s .pre .first) .0
@@ -44,7 +36,7 @@ join-letters-requires : tie.Need-join-letters-requires
 join-letters-requires c κs =
     let f = c .before .before in
     let s = start f in
-    rw (lent₁ f, lent₂ f) (omega (arith, many (s .args .second .now) (s .args .b) (s .pre .second), valid-letters (s .args .second .now) (s .args .b) (s .pre .second) .0), s .pre .few)
+    rw (lent₁ f, lent₂ f) (omega (arith, letters-many (s .args .second .now) (s .args .b) (s .pre .second), valid-letters (s .args .second .now) (s .args .b) (s .pre .second) .0), s .pre .few)
 
 returns : tie.Need-returns
 returns c =
@@ -53,7 +45,7 @@ returns c =
     let a = s .args in
     let j = rw (lent₁ f, lent₂ f) at (c .join-letters .ensures .1) in (
       c .join-letters .ensures .0,
-      (omega (arith, j .0, s .pre .few), over-apart (s .pre) (rw (many (a .first .now) (a .a) (s .pre .first)) at (j .1 .1 .0)) (rw (many (a .second .now) (a .b) (s .pre .second)) at (j .1 .1 .1)) (j .1 .0)),
+      (omega (arith, j .0, s .pre .few), (j .1 .0, (rw (letters-many (a .first .now) (a .a) (s .pre .first)) at (j .1 .1 .0), rw (letters-many (a .second .now) (a .b) (s .pre .second)) at (j .1 .1 .1)))),
     )
 
 pub letter-files-spec : {M : Type 1} → statement M

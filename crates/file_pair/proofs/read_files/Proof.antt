@@ -6,7 +6,6 @@ use borrow.Author.Needs.{needs}
 use Rattle.file_fields.specs.declared.Reading.the-variants.{Valid}
 use Rattle.file_fields.specs.Parts.{numberOf}
 use Rattle.format.specs.Reading.{readingOf}
-use lib.ListN.{length-drop, length-take}
 use Rattle.file_fields.proofs.Laws.{lent-letters}
 use Rattle.file_laws.proofs.Laws.{valid-letters}
 use Rattle.file_pair.specs.declared.Files.the-variants.{Fault}
@@ -39,16 +38,11 @@ flags-at-requires c κs = omega (arith, valid-letters _ _ (left-valid c))
 flags-at-requires-2 : tie.Need-flags-at-requires-2
 flags-at-requires-2 c κs = omega (arith, valid-letters _ _ (right-valid (c .before)))
 
-part-judge-letters-end : tie.Need-part-judge-letters-end
-part-judge-letters-end c = omega (arith, valid-letters _ _ (left-valid (c .before .before)))
+part-same-letters-end : tie.Need-part-same-letters-end
+part-same-letters-end c = omega (arith, valid-letters _ _ (left-valid (c .before .before)))
 
-part-judge-letters-end-2 : tie.Need-part-judge-letters-end-2
-part-judge-letters-end-2 c = omega (arith, valid-letters _ _ (right-valid (c .before .before .before)))
-
-judge-letters-requires : tie.Need-judge-letters-requires
-judge-letters-requires c κs =
-    let v = c .before .before .before .before in
-    simp (length-take, length-drop) (omega (arith, valid-letters _ _ (left-valid v), c .before .before .before .flags-at .ensures), omega (arith, valid-letters _ _ (right-valid v), c .before .before .flags-at2 .ensures))
+part-same-letters-end-2 : tie.Need-part-same-letters-end-2
+part-same-letters-end-2 c = omega (arith, valid-letters _ _ (right-valid (c .before .before .before)))
 
 returns-3 : tie.Need-returns-3
 returns-3 c =
@@ -56,7 +50,7 @@ returns-3 c =
     let a = v .before .before .before .before .before .before .before .before .before .before .args in
     let m = v .before .before .before .before .before .left .given .0 .0 in
     let n = v .before .right .given .0 .0 in
-    sym (valid-files (a .first .now) (a .second .now) (left-valid v) (right-valid v) ∙ rw (c .judge-letters .ensures, c .before .before .before .before .flags-at .ensures, c .before .before .before .flags-at2 .ensures, lent-letters m (a .first .now), lent-letters n (a .second .now)))
+    sym (valid-files (a .first .now) (a .second .now) (left-valid v) (right-valid v) ∙ rw (c .same-letters .ensures, c .before .before .before .before .flags-at .ensures, c .before .before .before .flags-at2 .ensures, lent-letters m (a .first .now), lent-letters n (a .second .now)))
 
 pub read-files-spec : {M : Type 1} → statement M
 read-files-spec =
@@ -76,9 +70,9 @@ read-files-spec =
     flags-at-requires-2
     (λ c. search needs)
     (λ c. search needs)
-    part-judge-letters-end
+    part-same-letters-end
     (λ c. search needs)
     (λ c. search needs)
-    part-judge-letters-end-2
-    judge-letters-requires
+    part-same-letters-end-2
+    (λ c κs. search needs)
     returns-3)

@@ -1,17 +1,16 @@
 -- `join_concatenation::concatenation_counts` meets its contract.
+use mathlib.Core.Path.{ap}
+use native.Mathlib.Omega.{arith}
 use borrow.Author.Needs.{needs}
-use lib.ListN.{length-map}
-use Rattle.relettering.specs.Relettering.{reletteredArc, withLetters}
+use Rattle.file_fields.specs.declared.Counts.{Counts}
 use Rattle.join_concatenation.proofs.concatenation_counts.Statement.{statement}
-use Rattle.join_concatenation.proofs.ConcatenationBytes.{concatenation-counts}
+use Rattle.join_concatenation.proofs.ConcatenationBytes.{concatenation-roomy-counts}
 use Rattle.join_concatenation.proofs.concatenation_counts.Tie as tie
 
 returns : tie.Need-returns
-unfolding withLetters
 returns c =
     let g = c .before .before .larger in
-    λ one two all x y e p f q.
-    rw (g .ensures, ← e, ← p, ← q, ← length-map (x .arcs) (reletteredArc one), ← length-map (y .arcs) (reletteredArc two)) (concatenation-counts (withLetters one all x) (withLetters two all y) f)
+    λ x y p f q. rw (g .ensures, ← p, ← q) (concatenation-roomy-counts x y _ (omega (arith, ap (λ (d : Counts). d .letters) p)) f)
 
 pub concatenation-counts-spec : {M : Type 1} → statement M
 concatenation-counts-spec =

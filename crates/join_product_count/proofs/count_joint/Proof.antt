@@ -1,39 +1,42 @@
 -- `join_product_count::count_joint` meets its contract.
-use mathlib.Core.Path.{_≡_, _∙_, ap₂, refl, sym}
+use mathlib.Core.Path.{_≡_, _∙_, ap₂, sym}
 use mathlib.Core.Logic.{⊎-elim}
 use mathlib.Core.List.{map}
 use Prim.Native.Nat.{ℕ, _*_, _+_, _-_, _<_, _≤_}
+use native.Mathlib.Nat.{mul-le-mul-left}
 use native.Mathlib.Omega.{arith}
 use borrow.Author.Needs.{needs}
 use lib.ListN.{drop, length}
-use Rattle.automata.specs.Joins.{arcBoth}
-use Rattle.relettering.specs.Relettering.{letterBy, reletteredArc}
+use Rattle.automata.specs.Joins.{arcBoth, arcLeft}
+use Rattle.relettering.specs.Relettering.{reletteredArc, withLetters}
 use Rattle.file_fields.specs.Parts.{firstArc}
 use Rattle.format.specs.Decoding.{arcOf, arcsOf, automatonOf}
 use Rattle.file_laws.proofs.Laws.{valid-arcs, valid-ranges}
+use Rattle.join_parts.specs.OwnNumbers.{byFirst}
 use Rattle.join_parts.proofs.Laws.{ArcHere, Walk, walk-here, walk-on, walk-start}
-use Rattle.join_product_count.specs.ProductArcs.{jointWith}
-use Rattle.join_product_count.proofs.Uncounted.{Uncounted, counted, none-tallied, uncounted-all, uncounted-none, uncounted-one}
-use Rattle.join_product_count.proofs.ProductArcLaws.{Sought, joint-next, joint-none, joint-nothing, joint-ops, joint-skip, letter-at, ops-at, sought}
+use Rattle.join_product_count.specs.ProductArcs.{Matches, firstWith, jointWith, numbersBy}
+use Rattle.join_product_count.proofs.Uncounted.{Uncounted, all-tallied, counted, uncounted-all, uncounted-none, uncounted-one}
+use Rattle.join_product_count.proofs.ProductArcLaws.{Wanted, first-empty, first-lettered, joint-next, joint-none, joint-ops, joint-skip, letter-at, ops-at, wanted}
 use Rattle.join_product_count.proofs.count_joint.Statement.{statement}
 use Rattle.join_product_count.proofs.count_joint.Tie as tie
 
 abbrev Inv-loop : tie.InvT-loop
-Inv-loop first one from b second two matched letter p own arcs₀ sum₀ most₀ at₀ i₀ arcs sum most at i = (i ≤ b .arcs) × Walk b second (b .arcs - i) at × (arcs ≤ i) × (sum ≤ 510 * i) × ((n k : ℕ) → Uncounted (counted arcs sum most) (jointWith n k (map (reletteredArc two) (arcsOf (b .arcs - i) (drop at second))) (reletteredArc one (arcOf (drop from first)))) (jointWith n k (map (reletteredArc two) (arcsOf (b .arcs) (drop (firstArc b) second))) (reletteredArc one (arcOf (drop from first)))))
+Inv-loop first from b second others letter p own arcs₀ sum₀ most₀ at₀ i₀ arcs sum most at i = (i ≤ b .arcs) × Walk b second (b .arcs - i) at × ((n k : ℕ) → Uncounted (counted arcs sum most) (jointWith n k (map (reletteredArc (numbersBy first others)) (arcsOf (b .arcs - i) (drop at second))) (arcOf (drop from first))) (jointWith n k (map (reletteredArc (numbersBy first others)) (arcsOf (b .arcs) (drop (firstArc b) second))) (arcOf (drop from first)))) × (arcs ≤ i) × (sum ≤ 510 * i)
 
 abbrev μ-loop : tie.MeasureT-loop
-μ-loop first one from b second two matched letter p own arcs₀ sum₀ most₀ at₀ i₀ arcs sum most at i = b .arcs - i
+μ-loop first from b second others letter p own arcs₀ sum₀ most₀ at₀ i₀ arcs sum most at i = b .arcs - i
 
--- what is known before the loop: the letter that is looked for among the second's arcs
-abbrev start : tie.After-matched-letter Inv-loop μ-loop → tie.Start Inv-loop μ-loop
-start c = c .before .before .before .before .before .before .before .before .before
+-- what is known before the loop: the letter that is looked for among the second's arcs, and its number there
+abbrev start : tie.After-other-letter Inv-loop μ-loop → tie.Start Inv-loop μ-loop
+start c = c .before .before .before .before .before .before .before
 
-wanted : (c : tie.After-matched-letter Inv-loop μ-loop) → let a = start c .args in Sought (reletteredArc (a .one .now) (arcOf (drop (a .from) (a .first .now)))) (letterBy (a .one .now) (c .before .before .before .byte .result)) (a .two .now) (c .matched-letter .result)
-wanted c =
-    let lettered = c .before in
-    let s = start c in
-    let a = s .args in
-    sought (a .one .now) (a .two .now) (a .matched .now) (a .first .now) (a .from) (lettered .before .before .byte .ensures .0) (lettered .if1 .left) (s .pre .1) refl (c .matched-letter .ensures)
+sought : (c : tie.Else1 Inv-loop μ-loop) → let s = c .before .before .before .before .before .before in let a = s .args in Wanted (s .pre .counts) (a .first .now) (a .others .now) (arcOf (drop (a .from) (a .first .now))) (c .before .before .byte .result)
+sought c = wanted (c .before .before .before .before .before .before .pre) (c .before .before .byte .ensures .0) (c .if1 .left)
+
+found : (c : tie.After-other-letter Inv-loop μ-loop) → let a = start c .args in Matches (a .b) (numbersBy (a .first .now) (a .others .now)) (c .before .before .before .byte .result) (c .other-letter .result)
+found c =
+    let v = start c .pre in
+    c .other-letter .ensures (v .counts) (start c .args .b) (start c .args .second .now) (v .files) (sought (c .before) .inside)
 
 -- the arc of this turn
 here : (c : tie.Then2 Inv-loop μ-loop) → let l = c .before .before in let a = start (l .before .before) .args in ArcHere (a .b) (a .second .now) (l .loop .at)
@@ -43,30 +46,46 @@ here c =
     walk-here (a .b) (a .second .now) (a .b .arcs) (l .loop .i) (l .loop .at) (c .if2 .taken) (l .loop .inv .1)
 
 add-byte : tie.Need-add-byte Inv-loop μ-loop
-add-byte c = omega (arith, c .before .before .before .before .before .pre .0)
+add-byte c = omega (arith, c .before .before .before .pre .whole)
 
 byte-requires : tie.Need-byte-requires Inv-loop μ-loop
-byte-requires c κs = omega (arith, c .before .before .before .before .before .pre .0)
+byte-requires c κs = omega (arith, c .before .before .before .pre .whole)
 
 add-byte-2 : tie.Need-add-byte-2 Inv-loop μ-loop
-add-byte-2 c = omega (arith, c .before .before .before .before .before .before .pre .0)
+add-byte-2 c = omega (arith, c .before .before .before .before .pre .whole)
 
 byte-requires-2 : tie.Need-byte-requires-2 Inv-loop μ-loop
-byte-requires-2 c κs = omega (arith, c .before .before .before .before .before .before .pre .0)
+byte-requires-2 c κs = omega (arith, c .before .before .before .before .pre .whole)
+
+-- an empty move: it stands beside each state of the second
+empties : (c : tie.Then1 Inv-loop μ-loop) → let s = c .before .before .before .before .before .before in (s .args .b .states ≤ 256) × (s .args .b .states * (4 + 2 * c .before .byte2 .result) ≤ 131584)
+empties c =
+    let s = c .before .before .before .before .before .before in
+    let few = valid-ranges _ _ (s .pre .files .second) .states in
+    let ops : 4 + 2 * c .before .byte2 .result ≤ 514 = omega (arith, c .before .byte2 .ensures .1) in
+    (few, omega (arith, mul-le-mul-left (s .args .b .states) ops))
 
 returns : tie.Need-returns Inv-loop μ-loop
 returns c =
-    let letter = c .before .before .byte in
-    let a = c .before .before .before .before .before .before .before .before .args in
-    let x = arcOf (drop (a .from) (a .first .now)) in
-    (λ n k. rw (joint-nothing n k (a .one .now) (map (reletteredArc (a .two .now)) (automatonOf (a .second .now) .arcs)) x _ (letter-at (a .first .now) (a .from)) (sym (letter .ensures .0) ∙ c .if1 .taken)) none-tallied, omega arith, omega arith)
+    let t = c .before in
+    let p = t .before .byte2 in
+    let s = t .before .before .before .before .before .before in
+    let a = s .args in
+    let first = a .first .now in
+    let n = a .b .states in
+    let x = arcOf (drop (a .from) first) in
+    let ops : length (x .ops) ≡ p .result = ops-at first (a .from) ∙ sym (p .ensures .0) in (
+      λ k. rw (first-empty n k (byFirst first (a .others .now) (a .second .now) .arcs) x _ (letter-at first (a .from)) (sym (t .before .before .byte .ensures .0) ∙ t .if1 .taken)) (all-tallied (arcLeft n x) (p .result) (λ i. ops) (omega (arith, s .pre .few-ops)) 0 n),
+      omega (arith, empties t),
+      omega (arith, empties t),
+    )
 
-matched-letter-requires : tie.Need-matched-letter-requires Inv-loop μ-loop
-matched-letter-requires c κs = c .before .before .byte .ensures .1
+other-letter-requires : tie.Need-other-letter-requires Inv-loop μ-loop
+other-letter-requires c κs = sought c .asked
 
 first-arc-requires : tie.Need-first-arc-requires Inv-loop μ-loop
 first-arc-requires c κs =
-    let r = valid-ranges _ _ (start c .pre .2 .valid) in
+    let r = valid-ranges _ _ (start c .pre .files .second) in
     (r .letters, omega (arith, r .states))
 
 loop-holds : tie.Need-loop-holds Inv-loop μ-loop
@@ -74,7 +93,7 @@ loop-holds c =
     let s = start (c .before) in
     let m = s .args .b .arcs in
     let e : m - 0 ≡ m = omega arith in
-    (omega arith, rw (e, c .first-arc .ensures) (walk-start _ _ (s .pre .2 .valid)), omega arith, omega arith, λ n k. rw (e, c .first-arc .ensures) (uncounted-all _))
+    (omega arith, rw (e, c .first-arc .ensures) (walk-start _ _ (s .pre .files .second)), λ n k. rw (e, c .first-arc .ensures) (uncounted-all _), omega arith, omega arith)
 
 add-byte-3 : tie.Need-add-byte-3 Inv-loop μ-loop
 add-byte-3 c = omega (arith, here c .whole)
@@ -97,7 +116,7 @@ bounds : (c : tie.Then3 Inv-loop μ-loop) → let ops = c .before .before in let
 bounds c =
     let ops = c .before .before in
     let l = ops .before .before .before in
-    (ops .byte3 .ensures .1, l .before .before .before .before .byte2 .ensures .1, l .loop .inv .2, l .loop .inv .3, omega (arith, ops .before .if2 .taken, valid-ranges _ _ (start (l .before .before) .pre .2 .valid) .arcs))
+    (ops .byte3 .ensures .1, l .before .before .before .before .byte2 .ensures .1, l .loop .inv .3, l .loop .inv .4, omega (arith, ops .before .if2 .taken, valid-ranges _ _ (start (l .before .before) .pre .files .second) .arcs))
 
 add-arcs : tie.Need-add-arcs Inv-loop μ-loop
 add-arcs c = omega (arith, bounds c)
@@ -123,9 +142,10 @@ loop-again c =
     let a = s .args in
     let first = a .first .now in
     let second = a .second .now in
-    let two = a .two .now in
-    let x = reletteredArc (a .one .now) (arcOf (drop (a .from) first)) in
-    let y = reletteredArc two (arcOf (drop (l .loop .at) second)) in
+    let new = numbersBy first (a .others .now) in
+    let x = arcOf (drop (a .from) first) in
+    let y = reletteredArc new (arcOf (drop (l .loop .at) second)) in
+    let letter = sought (own .before) .letter in
     let m = a .b .arcs in
     let i = l .loop .i in
     let on = walk-on (a .b) second m i (l .loop .at) (t .if2 .taken) (l .loop .inv .1) in
@@ -135,16 +155,16 @@ loop-again c =
     let q : (n k : ℕ) → length (arcBoth n k x y .ops) ≡ p .result + ops .byte3 .result = λ n k. joint-ops n k x y ∙ ap₂ (λ (u v : ℕ). u + v) (ops-at first (a .from) ∙ sym (p .ensures .0)) (ops-at second (l .loop .at) ∙ sym (ops .byte3 .ensures .0)) in (
       omega arith,
       rw (c .arc-size .ensures .0) on,
+      λ n k. rw (w .2, w .3, w .4 ∙ w .1 .ensures, c .arc-size .ensures .0) (uncounted-one (l .loop .arcs) (l .loop .sum) (l .loop .most) (arcBoth n k x y) _ _ (q n k) (rw (joint-next n k x letter second new (found own) m i (l .loop .at) (t .if2 .taken) (here t) (w .0 .taken ∙ test .byte4 .ensures .0)) at (l .loop .inv .2 n k))),
       omega (arith, w .2),
       omega (arith, w .3, b),
-      λ n k. rw (w .2, w .3, w .4 ∙ w .1 .ensures, c .arc-size .ensures .0) (uncounted-one (l .loop .arcs) (l .loop .sum) (l .loop .most) (arcBoth n k x y) _ _ (q n k) (rw (joint-next n k second two (s .pre .2) (wanted own) m i (l .loop .at) (t .if2 .taken) (here t) (w .0 .taken ∙ test .byte4 .ensures .0)) at (l .loop .inv .4 n k))),
     ))
     (λ w. (
       omega arith,
       rw (c .arc-size .ensures .0) on,
+      λ n k. rw (w .1, w .2, w .3, c .arc-size .ensures .0) (rw (joint-skip n k x letter second new (found own) m i (l .loop .at) (t .if2 .taken) (here t) (λ d. w .0 .left (d ∙ sym (test .byte4 .ensures .0)))) at (l .loop .inv .2 n k)),
       omega (arith, w .1),
       omega (arith, w .2),
-      λ n k. rw (w .1, w .2, w .3, c .arc-size .ensures .0) (rw (joint-skip n k second two (s .pre .2) (wanted own) m i (l .loop .at) (t .if2 .taken) (here t) (λ d. w .0 .left (d ∙ sym (test .byte4 .ensures .0)))) at (l .loop .inv .4 n k)),
     ))
     (c .before .if3 .came)
 
@@ -152,16 +172,24 @@ loop-again c =
 small : (c : tie.Else2 Inv-loop μ-loop) → let l = c .before .before in (l .loop .arcs ≤ 2048) × (l .loop .sum ≤ 1044480)
 small c =
     let l = c .before .before in
-    let many = valid-ranges _ _ (start (l .before .before) .pre .2 .valid) .arcs in
-    (omega (arith, l .loop .inv .0, l .loop .inv .2), omega (arith, l .loop .inv .0, l .loop .inv .3))
+    let many = valid-ranges _ _ (start (l .before .before) .pre .files .second) .arcs in
+    (omega (arith, l .loop .inv .0, l .loop .inv .3), omega (arith, l .loop .inv .0, l .loop .inv .4))
 
 returns-2 : tie.Need-returns-2 Inv-loop μ-loop
+unfolding withLetters
 returns-2 c =
     let l = c .before .before in
-    let s = start (l .before .before) in
+    let own = l .before .before in
+    let lettered = own .before in
+    let s = start own in
     let a = s .args in
-    let x = reletteredArc (a .one .now) (arcOf (drop (a .from) (a .first .now))) in (
-      λ n k. rw (valid-arcs _ _ (s .pre .2 .valid)) (uncounted-none (rw (joint-none n k x (a .two .now) (a .b) (a .second .now) (a .b .arcs) (l .loop .i) (l .loop .at) (c .if2 .left)) at (l .loop .inv .4 n k))),
+    let first = a .first .now in
+    let second = a .second .now in
+    let n = a .b .states in
+    let new = numbersBy first (a .others .now) in
+    let x = arcOf (drop (a .from) first) in
+    let e : (k : ℕ) → firstWith n k (map (reletteredArc new) (automatonOf second .arcs)) x ≡ jointWith n k (map (reletteredArc new) (automatonOf second .arcs)) x = λ k. first-lettered n k (map (reletteredArc new) (automatonOf second .arcs)) x _ (letter-at first (a .from)) (λ d. lettered .if1 .left (lettered .before .before .byte .ensures .0 ∙ d)) in (
+      λ k. rw (e k, valid-arcs _ _ (s .pre .files .second)) (uncounted-none (rw (joint-none n k x new (a .b) second (a .b .arcs) (l .loop .i) (l .loop .at) (c .if2 .left)) at (l .loop .inv .2 n k))),
       small c .0,
       omega (arith, small c),
     )
@@ -176,8 +204,11 @@ count-joint-spec =
     byte-requires
     add-byte-2
     byte-requires-2
+    (λ c. search needs)
+    (λ c. search needs)
+    (λ c. omega (arith, empties (c .before)))
     returns
-    matched-letter-requires
+    other-letter-requires
     (λ c. search needs)
     first-arc-requires
     loop-holds

@@ -1,22 +1,18 @@
 -- `file_letters::numbering::new_letter` meets its contract.
 use mathlib.Core.Path.{_∙_, sym}
-use native.Mathlib.Omega.{arith}
 use borrow.Author.Needs.{needs}
 use Rattle.relettering.proofs.Laws.{number-beyond, number-listed}
 use Rattle.file_letters.proofs.numbering.new_letter.Statement.{statement}
 use Rattle.file_letters.proofs.numbering.new_letter.Tie as tie
 
 returns : tie.Need-returns
-returns c = let a = c .before .before .args in (sym (number-beyond (a .new .now) (a .letter) (omega (arith, c .if1 .taken))), λ h. h)
+returns c =
+    let t = c .before in
+    let a = t .before .before .args in
+    (c .byte .ensures .0 ∙ sym (number-listed (a .new .now) (a .letter) (t .if1 .taken)), λ h. c .byte .ensures .1)
 
 returns-2 : tie.Need-returns-2
-returns-2 c =
-    let t = c .before in
-    let a = t .before .before .before .args in
-    (c .byte .ensures .0 ∙ sym (number-listed (a .new .now) (a .letter) (t .if2 .taken)), λ h. c .byte .ensures .1)
-
-returns-3 : tie.Need-returns-3
-returns-3 c = let a = c .before .before .before .args in (sym (number-beyond (a .new .now) (a .letter) (c .if2 .left)), λ h. h)
+returns-2 c = let a = c .before .before .args in (sym (number-beyond (a .new .now) (a .letter) (c .if1 .left)), λ h. h)
 
 pub new-letter-spec : {M : Type 1} → statement M
-new-letter-spec = tie.close (tie.spec returns (λ c κs. search needs) returns-2 returns-3)
+new-letter-spec = tie.close (tie.spec (λ c κs. search needs) returns returns-2)

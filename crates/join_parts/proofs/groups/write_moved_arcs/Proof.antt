@@ -62,6 +62,7 @@ write-moved-arc-requires c κs =
       omega (arith, h .fits .target, s .pre .1),
       s .pre .2,
       omega (arith, moved-length (s .args .s) (s .args .k) (arcOf arc), read-length arc),
+      h .kinds,
     )
 
 arc-size-requires : tie.Need-arc-size-requires Inv-loop μ-loop

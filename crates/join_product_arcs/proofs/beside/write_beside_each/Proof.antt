@@ -42,7 +42,7 @@ write-beside-requires c κs =
     let a = s .args in
     let arc = drop (a .from) (a .file .now) in
     let room = left-fits (arcBytes (besideArc (a .b) (arcOf arc) (l .loop .i))) _ (turn t) in
-    (s .pre .0, s .pre .1 (l .loop .i) (t .if1 .taken), s .pre .2 (l .loop .i) (t .if1 .taken), s .pre .3, omega (arith, beside-length (a .b) arc (l .loop .i)))
+    (s .pre .0, s .pre .1 (l .loop .i) (t .if1 .taken), s .pre .2 (l .loop .i) (t .if1 .taken), s .pre .3, omega (arith, beside-length (a .b) arc (l .loop .i)), s .pre .5)
 
 loop-again : tie.Need-loop-again Inv-loop μ-loop
 loop-again c =

@@ -71,7 +71,7 @@ write-beside-each-requires c κs =
     let s = l .before .before .before .before in
     let a = s .args in
     let arc = drop (l .loop .from) (a .file .now) in
-    (h .whole, λ j k. s .pre .1 (arcOf arc .source) j (h .fits .source) k, λ j k. s .pre .1 (arcOf arc .target) j (h .fits .target) k, s .pre .2, left-fits (arcsBytes (map (besideArc (a .b) (arcOf arc)) (countFrom 0 (a .b .states)))) _ (turn t))
+    (h .whole, λ j k. s .pre .1 (arcOf arc .source) j (h .fits .source) k, λ j k. s .pre .1 (arcOf arc .target) j (h .fits .target) k, s .pre .2, left-fits (arcsBytes (map (besideArc (a .b) (arcOf arc)) (countFrom 0 (a .b .states)))) _ (turn t), h .kinds)
 
 arc-size-requires : tie.Need-arc-size-requires Inv-loop μ-loop
 arc-size-requires c κs = omega (arith, here (c .before .before) .whole)
