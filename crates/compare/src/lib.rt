@@ -3,6 +3,7 @@ ghost use mathlib.Core.Path.{_≡_};
 ghost use mathlib.Core.Bool.{false, true};
 ghost use Prim.Native.Nat.{_≤_};
 ghost use lib.ListN.{length};
+ghost use Rattle.file_fields.specs.Parts.{countsOf};
 ghost use Rattle.file_pair.specs.Lettered.{Lettered, automatonOver};
 ghost use Rattle.file_pair.specs.Pair.{filesOf};
 ghost use Rattle.file_pair.specs.declared.Files.the-variants.{Valid};
@@ -27,27 +28,25 @@ mod loading;
 // Cost: what loading and deciding take.
 fn compare_files(
     first: &[u8],
-    a: Counts,
     one: &[u8],
     second: &[u8],
-    b: Counts,
     two: &[u8],
     letters: &[u8],
     w: &mut [u64],
     word: &mut [u8],
 ) -> Comparison
-    requires { ⌜ Lettered a b (now first) (now second) (now one) (now two) (now letters) × ((8192 ≤ length (now w)) × (512 ≤ length (now word))) ⌝ }
+    requires { ⌜ Lettered (countsOf (now first)) (countsOf (now second)) (now first) (now second) (now one) (now two) (now letters) × ((8192 ≤ length (now w)) × (512 ≤ length (now word))) ⌝ }
     ensures same { λ _. ⌜ length (now (w .exit)) ≡ length (now (w .entry)) ⌝ }
     ensures answers { λ r. ⌜ AnswersAtLimits (tableRefusals 256 2048 512) (automatonOver (now (one .entry)) (now (letters .entry)) (now (first .entry))) (automatonOver (now (two .entry)) (now (letters .entry)) (now (second .entry))) (now (word .entry)) (now (word .exit)) r ⌝ }
 {
-    let x = load(first, a, one, w, FIRST_BLOCK);
+    let x = load(first, one, w, FIRST_BLOCK);
     if x.refusal != 0 {
         return Comparison::Refused {
             number: x.refusal,
             automaton: 1,
         };
     }
-    let y = load(second, b, two, w, SECOND_BLOCK);
+    let y = load(second, two, w, SECOND_BLOCK);
     if y.refusal != 0 {
         return Comparison::Refused {
             number: y.refusal,
@@ -73,10 +72,8 @@ fn compare_alike(
     let end = flags_at(a);
     compare_files(
         first,
-        a,
         &first[0..0],
         second,
-        b,
         &second[0..0],
         &first[12..end],
         w,
@@ -113,10 +110,8 @@ fn compare_apart(
     let letters = l.letters;
     compare_files(
         first,
-        a,
         &one[0..m],
         second,
-        b,
         &two[0..n],
         &letters[0..count],
         w,

@@ -3,13 +3,14 @@ ghost use mathlib.Core.Path.{_≡_};
 ghost use mathlib.Core.List.{List};
 ghost use Prim.Native.Nat.{_≤_, ℕ};
 ghost use lib.ListN.{length};
+ghost use Rattle.file_fields.specs.Parts.{countsOf};
 ghost use Rattle.file_fields.specs.declared.Reading.the-variants.{Valid};
 ghost use Rattle.format.specs.Reading.{readingOf};
 ghost use Rattle.file_pair.specs.Lettered.{automatonOver};
 ghost use Rattle.word_fields.specs.Frame.{KeptBut};
 ghost use Rattle.word_layout.specs.Layout.{blockEnd, firstBlock};
 ghost use Rattle.compare.specs.Loading.{Loads};
-use format::Counts;
+use file_fields::header::read_counts;
 use table::block::build;
 use table::finals::final_configurations;
 use table_explore::Explored;
@@ -50,16 +51,18 @@ fn refused(number: u8) -> Loaded
     }
 }
 
-// Loads the automaton of a valid file with the counts c into the block from `base` on, over the letters that its own have the numbers
+// Loads the automaton of a valid file into the block from `base` on, over the letters that its own have the numbers
 // `new` among: it is built, its final configurations are taken, its plain arcs get the new numbers of their letters, and those that add
 // nothing to a step are dropped. Its configurations stand until the next automaton is loaded, which takes their place. Refuses 21: more
 // than 256 configurations; 22: more than 2,048 plain arcs.
 // Cost: what building and pruning take, one look at each configuration, and at each plain arc where `new` is not empty.
-pub fn load(file: &[u8], c: Counts, new: &[u8], w: &mut [u64], base: usize) -> Loaded
-    requires { ⌜ (readingOf (now file) ≡ Valid c) × (length (now new) ≤ 64) × (firstBlock ≤ base) × (blockEnd base ≤ length (now w)) ⌝ }
+pub fn load(file: &[u8], new: &[u8], w: &mut [u64], base: usize) -> Loaded
+    requires { ⌜ (readingOf (now file) ≡ Valid (countsOf (now file))) × (length (now new) ≤ 64) × (firstBlock ≤ base) × (blockEnd base ≤ length (now w)) ⌝ }
     ensures kept { λ _. ⌜ KeptBut 0 firstBlock base (blockEnd base) (now (w .entry)) (now (w .exit)) ⌝ }
     ensures loads { λ r. ⌜ ((all : List ℕ) → length all ≤ 64 → Loads (automatonOver (now (new .entry)) all (now (file .entry))) 2048 (now (w .exit)) base r) ⌝ }
 {
+    // Read from the header again: handing them on through the calls above costs more.
+    let c = read_counts(file);
     let Explored::Tables { count, plain } = build(file, c, w, base) else {
         return refused(21);
     };

@@ -16,12 +16,12 @@ use Rattle.relettering.specs.Relettering.{letterBy, relettered, reletteredArc, 
 use Rattle.relettering.proofs.Laws.{Inside, first-inside, joined-apart, joined-same, new-inside, relettered-formed, relettered-own, second-inside}
 use Rattle.file_fields.specs.declared.Counts.{Counts}
 use Rattle.file_fields.specs.declared.Reading.the-variants.{Valid}
-use Rattle.file_fields.specs.Parts.{ascending}
+use Rattle.file_fields.specs.Parts.{ascending, countsOf}
 use Rattle.format.specs.Decoding.{automatonOf}
 use Rattle.format.specs.Limits.{Fits}
 use Rattle.format.specs.Reading.{readingOf}
 use Rattle.file_letters.proofs.Laws.{joined-ascends}
-use Rattle.file_laws.proofs.Laws.{lent-alphabet, valid-fits, valid-letters, valid-sizes}
+use Rattle.file_laws.proofs.Laws.{file-seen, lent-alphabet, valid-fits, valid-letters, valid-sizes}
 use Rattle.file_pair.specs.Lettered.{Lettered, Numbers, OverBoth}
 use Rattle.file_pair.specs.Pair.{Joinable, filesOf, lettersOf}
 use Rattle.file_pair.specs.declared.Files.the-variants.{Valid as BothValid}
@@ -51,6 +51,10 @@ lettered-few {a} {b} {s} {t} {one} {two} l = (numbers-few (a .letters) one (vali
 -- a valid file has as many letters as its counts say
 pub letters-many : (s : List ℕ) (a : Counts) → readingOf s ≡ Valid a → letters (automatonOf s) ≡ a .letters
 letters-many s a e = ap (λ (c : Counts). c .letters) (valid-sizes s a e)
+
+-- the same by the counts that the files' headers say
+pub header-lettered : {a b : Counts} {s t one two all : List ℕ} → Lettered a b s t one two all → Lettered (countsOf s) (countsOf t) s t one two all
+header-lettered {a} {b} {s} {t} l = rw (file-seen s a (l .first) .counts, file-seen t b (l .second) .counts) l
 
 module _ {a b : Counts} {s t : List ℕ} (j : Joinable a b s t) where
   abbrev x : Automaton

@@ -3,7 +3,7 @@
 // output as it was lent; else the joined file stands at its front, and the bytes behind it are as they were lent. Two files are joined over
 // the letters of both (document 02, change 6): the joined file lists the first file's bytes and those of the second that match none of
 // them, ascending, and its arcs have the numbers of their letters there. It is written by each file's own numbers first; where the two lists
-// differ, the letters of both and their numbers are then put in. So files with the same letters pay for none of this.
+// differ, the letters of both and their numbers are then put in. So files with the same letters pay no more than a few tests for it.
 ghost use mathlib.Core.Path.{_≡_};
 ghost use mathlib.Core.Bool.{cond};
 ghost use Prim.Native.Nat.{_+_, _≤_};
@@ -22,8 +22,8 @@ use format::Reading;
 use format::fields::flags_at;
 use join_parts::letters::put_letters;
 
-// Where the second file's letters end whose bytes tell which arcs have one letter: behind the last where the lists differ; where they agree the
-// numbers tell it, and none is looked at. Cost: constant.
+// Where the second file's letters end that an intersection is lent: all of them where the lists differ, none where they agree, since the same
+// numbers are the same letters then. Cost: constant.
 fn others_end(agree: bool, b: Counts) -> usize
     requires { ⌜ b .letters ≤ 64 ⌝ }
     ensures end { λ r. ⌜ r ≡ cond agree 12 (12 + b .letters) ⌝ }
@@ -38,7 +38,8 @@ fn others_end(agree: bool, b: Counts) -> usize
 // Writes an automaton that accepts the words of either: a new state 0 with an empty move into each.
 // Refuses, in this order: the first file's fault, as `format::read` tells it; the second's; 11, more than 64 letters together, or the
 // joined automaton beyond a limit on states or arcs; 25, the output shorter than the result.
-// Cost: what reading each file takes, and one pass to write it; and the pairs of letters, where the lists do not agree.
+// Cost: what reading each file takes, and one pass to write it; where the lists do not agree, also the pairs of letters and one pass over the
+// arcs written.
 pub fn union(first: &[u8], second: &[u8], out: &mut [u8]) -> Written
     ensures answer { λ r. ⌜ r ≡ joinedOf union (now (first .entry)) (now (second .entry)) (length (now (out .entry))) ⌝ }
     ensures output { λ r. ⌜ now (out .exit) ≡ outputOf r (bytesOf (joinOf union (now (first .entry)) (now (second .entry)))) (now (out .entry)) ⌝ }
@@ -67,7 +68,8 @@ pub fn union(first: &[u8], second: &[u8], out: &mut [u8]) -> Written
 // first an empty move to the initial state of the second, which has registers of its own.
 // Refuses, in this order: the first file's fault, as `format::read` tells it; the second's; 11, more than 64 letters together, or the
 // joined automaton beyond a limit on states, registers or arcs; 25, the output shorter than the result.
-// Cost: what reading each file takes, and one pass to write it; and the pairs of letters, where the lists do not agree.
+// Cost: what reading each file takes, and one pass to write it; where the lists do not agree, also the pairs of letters and one pass over the
+// arcs written.
 pub fn concatenate(first: &[u8], second: &[u8], out: &mut [u8]) -> Written
     ensures answer { λ r. ⌜ r ≡ joinedOf concatenation (now (first .entry)) (now (second .entry)) (length (now (out .entry))) ⌝ }
     ensures output { λ r. ⌜ now (out .exit) ≡ outputOf r (bytesOf (joinOf concatenation (now (first .entry)) (now (second .entry)))) (now (out .entry)) ⌝ }
@@ -96,7 +98,8 @@ pub fn concatenate(first: &[u8], second: &[u8], out: &mut [u8]) -> Written
 // Refuses, in this order: the first file's fault, as `format::read` tells it; the second's; 11, more than 64 letters together, or the
 // joined automaton beyond a limit on states, registers, arcs or operations of an arc; 25, the output shorter than the result.
 // Cost: what reading each file takes, one pass over the pairs of arcs to count (none where states or registers are too many), one to write;
-// and the pairs of letters, where the lists do not agree.
+// where the lists do not agree, also the pairs of letters, for each arc of the first the letters of the second, and one pass over the arcs
+// written.
 pub fn intersect(first: &[u8], second: &[u8], out: &mut [u8]) -> Written
     ensures answer { λ r. ⌜ r ≡ joinedOf intersection (now (first .entry)) (now (second .entry)) (length (now (out .entry))) ⌝ }
     ensures output { λ r. ⌜ now (out .exit) ≡ outputOf r (bytesOf (joinOf intersection (now (first .entry)) (now (second .entry)))) (now (out .entry)) ⌝ }

@@ -23,7 +23,7 @@ use format::fields::first_arc;
 
 // The arcs at a place with the new numbers of their letters, each where it stands. Cost: the arcs.
 fn reletter_arcs(out: &mut [u8], at: usize, count: usize, new: &[u8]) -> usize
-    requires { ⌜ (length (now new) ≤ 64) × (at + whole count (drop at (now out)) ≤ length (now out)) ⌝ }
+    requires { ⌜ at + whole count (drop at (now out)) ≤ length (now out) ⌝ }
     ensures place { λ r. ⌜ r ≡ at + whole count (drop at (now (out .entry))) ⌝ }
     ensures output { λ _. ⌜ now (out .exit) ≡ take at (now (out .entry)) ++ reletteredBytes count (now (new .entry)) (drop at (now (out .entry))) ⌝ }
 {
@@ -46,8 +46,8 @@ fn last_arcs(of_second: bool, c: Counts) -> usize
 }
 
 // The letters of both files at their place in a joined file, and their numbers on its arcs: the last ones, as many as the second file has,
-// by the second file's, where `of_second` says so, and all others by the first's. Counts are read from the headers. Refuses nothing. Cost:
-// the pairs of letters, and the joined file's arcs.
+// by the second file's, where `of_second` says so, and all others by the first's. Counts are read from the headers, so that a call need not
+// keep them until here. Refuses nothing. Cost: the pairs of letters, and the joined file's arcs.
 pub fn put_letters(out: &mut [u8], first: &[u8], second: &[u8], of_second: bool)
     requires { ⌜ Joinable (countsOf (now first)) (countsOf (now second)) (now first) (now second) × Standing (now first) (now second) «of_second» (now out) ⌝ }
     ensures { λ _. ⌜ ((z : Automaton) (behind : List ℕ) → now (out .entry) ≡ bytesOf (roomy (length (lettersOf (now (first .entry)) (now (second .entry)))) z) ++ behind → length (z .alphabet) ≤ length (lettersOf (now (first .entry)) (now (second .entry))) → lastArcs «of_second» (now (second .entry)) ≤ length (z .arcs) → now (out .exit) ≡ bytesOf (lettersPut (lastArcs «of_second» (now (second .entry))) (places (lettersOf (now (first .entry)) (now (second .entry))) (automatonOf (now (first .entry)) .alphabet)) (places (lettersOf (now (first .entry)) (now (second .entry))) (automatonOf (now (second .entry)) .alphabet)) (lettersOf (now (first .entry)) (now (second .entry))) z) ++ behind) ⌝ }

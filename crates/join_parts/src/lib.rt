@@ -1,5 +1,5 @@
 // join_parts: what joins of automata in files are made of (document 01, 'Joining books'): the files and their refusals, the counts and
-// the length of the result, and the writers of its parts.
+// the length of the result, the writers of its parts, and the letters of both files put into it.
 
 pub mod answer;
 pub mod finals;

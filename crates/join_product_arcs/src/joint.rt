@@ -78,8 +78,8 @@ fn write_joint_with(
     to
 }
 
-// All joint arcs of two files, by the numbers of the first file's letters; the second's registers from 1 up move by k, those of the first but
-// register 0. Cost: for each arc of the first, the arcs of the second; and the bytes written.
+// All joint arcs of two files, by the numbers of the first file's letters; the second's registers from 1 up move by k, behind those of the
+// first. Cost: for each arc of the first, the arcs of the second; and the bytes written.
 pub fn write_joint_arcs(
     out: &mut [u8],
     at: usize,

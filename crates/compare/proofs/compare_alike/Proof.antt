@@ -7,7 +7,7 @@ use borrow.Author.Needs.{needs}
 use lib.ListN.{drop, take}
 use Rattle.file_laws.proofs.Laws.{valid-letters}
 use Rattle.file_pair.specs.Lettered.{OverBoth}
-use Rattle.file_pair.proofs.Laws.{agree-joinable, files-valid, lent-over}
+use Rattle.file_pair.proofs.Laws.{agree-joinable, files-valid, header-lettered, lent-over}
 use Rattle.compare_promise.specs.Comparing.{tableRefusals}
 use Rattle.compare.proofs.OverLaws.{answers-over}
 use Rattle.compare.proofs.Refusals.{files-both}
@@ -27,7 +27,7 @@ part-compare-files-end-3 : tie.Need-part-compare-files-end-3
 part-compare-files-end-3 c = let f = c .before .before in let s = start f in omega (arith, f .flags-at .ensures, valid-letters (s .args .first .now) (s .args .a) (files-valid (s .args .first .now) (s .args .second .now) (s .pre .0) .0) .1)
 
 compare-files-requires : tie.Need-compare-files-requires
-compare-files-requires c κs = let f = c .before .before .before .before .before in let s = start f in (over f .lettered, (s .pre .1, s .pre .2))
+compare-files-requires c κs = let f = c .before .before .before .before .before in let s = start f in (header-lettered (over f .lettered), (s .pre .1, s .pre .2))
 
 returns : tie.Need-returns
 returns c =

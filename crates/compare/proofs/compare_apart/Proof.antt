@@ -13,7 +13,7 @@ use Rattle.format.specs.Reading.{readingOf}
 use Rattle.file_laws.proofs.Laws.{valid-letters}
 use Rattle.file_pair.specs.Lettered.{OverBoth}
 use Rattle.file_pair.specs.Pair.{Joinable, lettersOf}
-use Rattle.file_pair.proofs.Laws.{files-valid, over-apart}
+use Rattle.file_pair.proofs.Laws.{files-valid, header-lettered, over-apart}
 use Rattle.compare_promise.specs.Comparing.{tableRefusals}
 use Rattle.compare.proofs.OverLaws.{answers-over}
 use Rattle.compare.proofs.Refusals.{files-both, letters-many}
@@ -82,7 +82,7 @@ compare-files-requires : tie.Need-compare-files-requires
 compare-files-requires c κs =
     let l = c .before .before .before .before .before .before .before .before .before .before .before in
     let s = start l in
-    (over l .lettered, (s .pre .1, s .pre .2))
+    (header-lettered (over l .lettered), (s .pre .1, s .pre .2))
 
 returns-2 : tie.Need-returns-2
 returns-2 c =

@@ -31,10 +31,10 @@ abbrev start-of : tie.After-load2 → tie.Start
 start-of m = start (one-of (first-of m))
 
 -- what loading answers, over the letters of both
-first-loads : (l : tie.After-load) → let a = start l .args in Loads (automatonOver (a .one .now) (a .letters .now) (a .first .now)) 2048 (l .load .last .1 .1 .1 .0) firstBlock (l .load .result)
+first-loads : (l : tie.After-load) → let a = start l .args in Loads (automatonOver (a .one .now) (a .letters .now) (a .first .now)) 2048 (l .load .last .1 .1 .0) firstBlock (l .load .result)
 first-loads l = let s = start l in l .load .ensures .1 (s .args .letters .now) (over-few _ _ _ (s .pre .0 .fits₁))
 
-second-loads : (m : tie.After-load2) → let a = start-of m .args in Loads (automatonOver (a .two .now) (a .letters .now) (a .second .now)) 2048 (m .load2 .last .1 .1 .1 .0) secondBlock (m .load2 .result)
+second-loads : (m : tie.After-load2) → let a = start-of m .args in Loads (automatonOver (a .two .now) (a .letters .now) (a .second .now)) 2048 (m .load2 .last .1 .1 .0) secondBlock (m .load2 .result)
 second-loads m = let s = start-of m in m .load2 .ensures .1 (s .args .letters .now) (over-few _ _ _ (s .pre .0 .fits₂))
 
 load-requires : tie.Need-load-requires
@@ -54,7 +54,7 @@ load-requires-2 c κs =
     (start l .pre .0 .second, lettered-few (start l .pre .0) .1, omega arith, omega (arith, start l .pre .1 .0, l .load .ensures .0 .long))
 
 -- as many words are lent once the second is loaded
-long : (m : tie.After-load2) → length (m .load2 .last .1 .1 .1 .0) ≡ length (start-of m .args .w .now)
+long : (m : tie.After-load2) → length (m .load2 .last .1 .1 .0) ≡ length (start-of m .args .w .now)
 long m = m .load2 .ensures .0 .long ∙ one-of (first-of m) .load .ensures .0 .long
 
 -- the second is refused
@@ -67,7 +67,7 @@ returns-2 c =
 
 -- both are prepared: the second is written beside the first
 first-prepared : (e : tie.Else2) → let m = two-of e in let a = start-of m .args in
-    Prepared (automatonOver (a .one .now) (a .letters .now) (a .first .now)) 256 (m .load2 .last .1 .1 .1 .0) (one-of (first-of m) .load .result .standing)
+    Prepared (automatonOver (a .one .now) (a .letters .now) (a .first .now)) 256 (m .load2 .last .1 .1 .0) (one-of (first-of m) .load .result .standing)
 first-prepared e =
     let m = two-of e in
     let o = first-of m in
@@ -76,7 +76,7 @@ first-prepared e =
     prepared-kept (block-but (m .load2 .ensures .0) (omega arith) (inl (omega arith))) (first-loads l .prepared (o .if1 .left))
 
 second-prepared : (e : tie.Else2) → let m = two-of e in let a = start-of m .args in
-    Prepared (automatonOver (a .two .now) (a .letters .now) (a .second .now)) 256 (m .load2 .last .1 .1 .1 .0) (m .load2 .result .standing)
+    Prepared (automatonOver (a .two .now) (a .letters .now) (a .second .now)) 256 (m .load2 .last .1 .1 .0) (m .load2 .result .standing)
 second-prepared e = second-loads (two-of e) .prepared (e .if2 .left)
 
 decide-requires : tie.Need-decide-requires

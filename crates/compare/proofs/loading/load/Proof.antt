@@ -8,7 +8,9 @@ use Rattle.word_fields.specs.Frame.{KeptBut}
 use Rattle.word_fields.proofs.Laws.{but-high, but-then, but-wider}
 use Rattle.word_layout.specs.Layout.{blockEnd, firstBlock}
 use Rattle.word_layout.specs.declared.Block.{Block}
+use Rattle.file_fields.specs.declared.Counts.{Counts}
 use Rattle.format.specs.Decoding.{automatonOf}
+use Rattle.file_laws.proofs.Laws.{valid-letters}
 use Rattle.table_explore.specs.Explores.{exploredOf}
 use Rattle.table_configurations.specs.declared.Explored.{Explored}
 use Rattle.table_configurations.specs.declared.Explored.the-variants.{Tables}
@@ -24,13 +26,20 @@ use Rattle.compare.proofs.loading.load.Tie as tie
 
 -- building's call
 abbrev start : tie.After-build → tie.Start
-start b = b .before .before .before .before .before
+start b = b .before .before .before .before .before .before
+
+-- the counts of the file
+abbrev counts : tie.After-build → Counts
+counts b = b .before .before .read-counts .result
 
 abbrev from : tie.After-known-told → tie.After-build
 from z = z .before .before .before .before .before
 
+read-counts-requires : tie.Need-read-counts-requires
+read-counts-requires c κs = let s = c .before .before .before in omega (arith, valid-letters (s .args .file .now) _ (s .pre .0) .1)
+
 build-requires : tie.Need-build-requires
-build-requires c κs = let s = c .before .before .before .before in (s .pre .0, record { above = omega (arith, s .pre .2); block = s .pre .3 })
+build-requires c κs = let s = c .before .before .before .before .before in (rw (c .before .read-counts .ensures) (s .pre .0), record { above = omega (arith, s .pre .2); block = s .pre .3 })
 
 -- it writes below the blocks and in its own
 building : (b : tie.After-build) → let s = start b in KeptBut 0 firstBlock (s .args .base) (blockEnd (s .args .base)) (s .args .w .now) (b .build .last .1 .1 .0)
@@ -70,8 +79,8 @@ returns-2 c =
 abbrev block : tie.After-known-told → Block
 block z = record { base = start (from z) .args .base; count = z .before .count .given .0 .0; plain = z .before .count .given .0 .1 .0 }
 
-stands : (z : tie.After-known-told) → let a = start (from z) .args in Raised (a .file .now) (a .c) (from z .build .last .1 .1 .0) (block z)
-stands z = let a = start (from z) .args in subst (λ (r : Explored). StandsBy (a .file .now) (a .c) (from z .build .last .1 .1 .0) (a .base) r) (z .before .count .given .1) (from z .build .ensures .1 .1)
+stands : (z : tie.After-known-told) → let a = start (from z) .args in Raised (a .file .now) (counts (from z)) (from z .build .last .1 .1 .0) (block z)
+stands z = let a = start (from z) .args in subst (λ (r : Explored). StandsBy (a .file .now) (counts (from z)) (from z .build .last .1 .1 .0) (a .base) r) (z .before .count .given .1) (from z .build .ensures .1 .1)
 
 final-configurations-requires : tie.Need-final-configurations-requires
 final-configurations-requires c κs = stands-numbered (stands (c .before .before) .stands)
@@ -147,6 +156,7 @@ pub load-spec : {M : Type 1} → statement M
 load-spec =
     tie.close
     (tie.spec
+    read-counts-requires
     build-requires
     (λ c. search needs)
     (λ c. search needs)

@@ -158,8 +158,7 @@ reletter-arcs-requires c κs =
     let f = c .before .before .before in
     let l = lettered (copied f) in
     let s = start l in
-    let e = few l in
-    (simp length-take (omega (arith, e .2)), put₁ f (s .pre .1 .joined) (s .pre .1 .behind) (stands s) .room)
+    put₁ f (s .pre .1 .joined) (s .pre .1 .behind) (stands s) .room
 
 part-reletter-arcs-end-2 : tie.Need-part-reletter-arcs-end-2
 part-reletter-arcs-end-2 c = let e = few (lettered (copied (placed (c .before .before .before .before)))) in omega (arith, e .0, e .1, e .2, e .3)
@@ -169,8 +168,7 @@ reletter-arcs-requires-2 c κs =
     let r = c .before .before .before .before .before in
     let l = lettered (copied (placed r)) in
     let s = start l in
-    let e = few l in
-    (simp length-take (omega (arith, e .2, e .3)), put₂ r (s .pre .1 .joined) (s .pre .1 .behind) (stands s) .room)
+    put₂ r (s .pre .1 .joined) (s .pre .1 .behind) (stands s) .room
 
 returns : tie.Need-returns
 returns c z behind e room arcs =

@@ -28,7 +28,7 @@ number : (c : tie.After-new-letter Inv-loop μ-loop) → let w = c .before .befo
 number c = rw (← c .before .byte .ensures .0) (c .new-letter .ensures .0)
 
 loop-holds : tie.Need-loop-holds Inv-loop μ-loop
-loop-holds c = let a = c .before .before .args in arcs-all (a .new .now) (a .at) (a .count) (a .out .now) (c .before .before .pre .1)
+loop-holds c = let a = c .before .before .args in arcs-all (a .new .now) (a .at) (a .count) (a .out .now) (c .before .before .pre)
 
 byte-requires : tie.Need-byte-requires Inv-loop μ-loop
 byte-requires c κs = omega (arith, here (c .before))
