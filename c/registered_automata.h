@@ -1,4 +1,5 @@
-/* Finite-state registered automata in files: read, run, unfold, join and compare them, and count their words.
+/* Finite-state registered automata in files: read, run, unfold, join and compare them, count their words, and judge words with ranges of
+ * letters.
  *
  * Link with libregistered_automata.a, which `rt staticlib registered_automata` writes to target/staticlib (x86-64).
  *
@@ -28,8 +29,8 @@
  *
  * Where several refusals would be in place, the call answers the first in this order: RA_TOO_LITTLE_MEMORY_LENT; the first file's
  * fault (the first one that is met from left to right); the second file's fault; RA_JOINED_BEYOND_A_LIMIT, which comparing gives for the
- * letters alone, or RA_LENGTH_TOO_LARGE; RA_TOO_MANY_CONFIGURATIONS and RA_TOO_MANY_PLAIN_ARCS of the first, then of the second;
- * RA_TOO_MANY_LIVE_SETS; RA_OUTPUT_TOO_SHORT.
+ * letters alone, RA_LENGTH_TOO_LARGE or RA_BAD_RANGES; RA_TOO_MANY_CONFIGURATIONS and RA_TOO_MANY_PLAIN_ARCS of the first, then of the
+ * second; RA_TOO_MANY_LIVE_SETS; RA_OUTPUT_TOO_SHORT.
  */
 #ifndef REGISTERED_AUTOMATA_H
 #define REGISTERED_AUTOMATA_H
@@ -92,7 +93,9 @@ enum ra_refusal {
     RA_TOO_MANY_CONFIGURATIONS = 21,
     /* more than 2048 plain arcs: passing arcs, counted at each configuration */
     RA_TOO_MANY_PLAIN_ARCS = 22,
-    /* words lead to more than 512 live sets, or to more than 512 pairs of them where two automata are compared */
+    /* words lead to more than 512 live sets, or to more than 512 pairs of them where two automata are compared; of a word with ranges,
+     * its fillings up to one of its places do
+     */
     RA_TOO_MANY_LIVE_SETS = 23,
     /* less working memory than 8192 words, or less room for a word than 512 bytes */
     RA_TOO_LITTLE_MEMORY_LENT = 24,
@@ -100,7 +103,10 @@ enum ra_refusal {
     RA_OUTPUT_TOO_SHORT = 25,
     /* of the length of words that are to be counted */
     /* the length is above 64, or more than 18446744073709551615 words have it */
-    RA_LENGTH_TOO_LARGE = 31
+    RA_LENGTH_TOO_LARGE = 31,
+    /* of the places of a word with ranges */
+    /* a byte is left over, or a range has its low above its high or its high not below the number of letters */
+    RA_BAD_RANGES = 35
 };
 
 /* What ra_read answers: the counts in the header of a valid file, or its first fault and where that stands. */
@@ -145,6 +151,23 @@ struct ra_word_count {
     uint64_t rejected;  /* how many words of the length are not */
     uint8_t number;     /* 0, or enum ra_refusal */
     uint8_t automaton;  /* the automaton at fault */
+};
+
+/* How many of the fillings of a word with ranges are accepted. */
+enum ra_fillings {
+    /* every filling */
+    RA_ALWAYS = 1,
+    /* some, and some are not */
+    RA_SOMETIMES = 2,
+    /* none */
+    RA_NEVER = 3
+};
+
+/* What ra_accepts_ranges answers. */
+struct ra_ranged {
+    uint8_t number;     /* 0, or enum ra_refusal */
+    uint8_t automaton;  /* the automaton at fault */
+    uint8_t answer;     /* enum ra_fillings, or 0 where the call was refused */
 };
 
 /* Is the file valid? Answers the counts in its header, or its first fault, which is always that of the one file, and its place: where
@@ -205,6 +228,16 @@ struct ra_comparison ra_compare(const uint8_t *first, size_t first_length,
 struct ra_word_count ra_count_words(const uint8_t *file, size_t file_length,
                                     uint64_t length,
                                     uint64_t *work, size_t work_words);
+
+/* Of a word of which each letter is known only to lie in a range: does the automaton of the file accept every filling, some, or none?
+ * `places` has two bytes for each letter of the word: the lowest and the highest number that it can have, both included. The numbers are
+ * those of the file's letters, from 0 on in the order of its list. A filling has a letter of each range, one behind the other. With no
+ * places the empty word is the only filling, so the answer is RA_ALWAYS or RA_NEVER. What is counted for RA_TOO_MANY_LIVE_SETS are the
+ * live sets of all fillings of the places up to one of them, for each place by itself. Refused: a fault of the file, 21, 23, 24, 35; never
+ * 22. */
+struct ra_ranged ra_accepts_ranges(const uint8_t *file, size_t file_length,
+                                   const uint8_t *places, size_t places_length,
+                                   uint64_t *work, size_t work_words);
 
 #ifdef __cplusplus
 }

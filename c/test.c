@@ -1,4 +1,4 @@
-/* Calls each function of the static library on five small automata, and checks every answer and every lent byte.
+/* Calls each function of the static library on five small automata and some at a limit, and checks every answer and every lent byte.
  * Prints what it did. The exit status is 1 where an answer is another than the expected one. */
 #include "registered_automata.h"
 
@@ -496,6 +496,118 @@ static void test_count_words(void) {
     expect_no_words(ra_count_words(NULL, 0, 65, work, RA_WORKING_WORDS - 1), RA_TOO_LITTLE_MEMORY_LENT, 0);
 }
 
+/* Over a and b, is the letter at this place from the end an a? At most 10. The live set of a word tells which of its last letters are a, as
+ * many as that. The third letter, c, leaves nothing live. Answers the length of the file. */
+static size_t letter_from_the_end(uint8_t place, uint8_t *file) {
+    const uint8_t begin[] = {0x4D, 0x4C, 0x42, 1, 0, 3, place + 1, 0, 1, 1, 2 * place + 1, 0, 'a', 'b', 'c'};
+    const uint8_t first_arcs[] = {
+        0, 0, 0, 1, 0x00, 0,
+        0, 0, 1, 1, 0x00, 0,
+        0, 1, 0, 1, 0x00, 0,
+    };
+    memcpy(file, begin, sizeof begin);
+    size_t length = sizeof begin;
+    for (uint8_t state = 0; state <= place; state++)
+        file[length++] = state == place;
+    memcpy(file + length, first_arcs, sizeof first_arcs);
+    length += sizeof first_arcs;
+    for (uint8_t state = 1; state < place; state++)
+        for (uint8_t letter = 0; letter < 2; letter++) {
+            const uint8_t arc[] = {state, letter, state + 1, 1, 0x00, 0};
+            memcpy(file + length, arc, sizeof arc);
+            length += sizeof arc;
+        }
+    return length;
+}
+
+/* One letter; two registers hold any of 16 symbols each, in either of two states: 512 configurations. Answers the length of the file. */
+static size_t many_configurations(uint8_t *file) {
+    const uint8_t begin[] = {0x4D, 0x4C, 0x42, 1, 0, 1, 2, 0, 3, 16, 33, 0, 'a', 0, 1};
+    memcpy(file, begin, sizeof begin);
+    size_t length = sizeof begin;
+    for (uint8_t i = 0; i < 33; i++) {
+        const uint8_t arc[] = {0, 0, i == 32, 1, i == 32 ? 0x00 : 0x11 + i / 16, i % 16};
+        memcpy(file + length, arc, sizeof arc);
+        length += sizeof arc;
+    }
+    return length;
+}
+
+static void expect_ranged(const char *name, const uint8_t *file, size_t size, const uint8_t *places, size_t length, enum ra_fillings answer) {
+    printf("ra_accepts_ranges of %s\n", name);
+    lend();
+    struct ra_ranged r = ra_accepts_ranges(file, size, places, length, work, RA_WORKING_WORDS);
+    expect("number", r.number, 0);
+    expect("automaton at fault", r.automaton, 0);
+    expect("answer", r.answer, answer);
+}
+
+static void expect_no_ranged(struct ra_ranged r, enum ra_refusal number, int automaton) {
+    expect("number", r.number, number);
+    expect("automaton at fault", r.automaton, automaton);
+    expect("answer", r.answer, 0);
+}
+
+static void test_accepts_ranges(void) {
+    /* The letters of T and U are c, e and m, those of S are a and b. */
+    expect_ranged("T: cc", T, sizeof T, (uint8_t[]){0, 0, 0, 0}, 4, RA_ALWAYS);
+    expect_ranged("T: ce", T, sizeof T, (uint8_t[]){0, 0, 1, 1}, 4, RA_NEVER);
+    expect_ranged("T: c or e, then c", T, sizeof T, (uint8_t[]){0, 1, 0, 0}, 4, RA_SOMETIMES);
+    expect_ranged("T: c or e, then m, then c or e", T, sizeof T, (uint8_t[]){0, 1, 2, 2, 0, 1}, 6, RA_SOMETIMES);
+    expect_ranged("T: m, then any letter", T, sizeof T, (uint8_t[]){2, 2, 0, 2}, 4, RA_NEVER);
+    expect_ranged("T: any letter", T, sizeof T, (uint8_t[]){0, 2}, 2, RA_NEVER);
+    expect_ranged("U: c or e, then m, then c or e", U, sizeof U, (uint8_t[]){0, 1, 2, 2, 0, 1}, 6, RA_ALWAYS);
+    expect_ranged("U: c or e, then e or m", U, sizeof U, (uint8_t[]){0, 1, 1, 2}, 4, RA_SOMETIMES);
+    expect_ranged("T, no places", T, sizeof T, NULL, 0, RA_NEVER);
+    expect_ranged("the closure of S, no places", S_CLOSED, sizeof S_CLOSED, NULL, 0, RA_ALWAYS);
+    uint8_t places[2000];
+    for (size_t i = 0; i < sizeof places; i++)
+        places[i] = i % 2;
+    expect_ranged("the closure of S: a thousand letters", S_CLOSED, sizeof S_CLOSED, places, sizeof places, RA_SOMETIMES);
+    places[sizeof places - 2] = 1;
+    expect_ranged("the closure of S: a thousand letters, the last one b", S_CLOSED, sizeof S_CLOSED, places, sizeof places, RA_ALWAYS);
+    places[sizeof places - 2] = places[sizeof places - 1] = 0;
+    expect_ranged("the closure of S: a thousand letters, the last one a", S_CLOSED, sizeof S_CLOSED, places, sizeof places, RA_NEVER);
+
+    const struct { const char *name; uint8_t places[6]; size_t length; } bad[] = {
+        {"a byte", {0}, 1},
+        {"a range and a byte", {0, 2, 0}, 3},
+        {"low above high", {1, 0}, 2},
+        {"a high that is no letter", {0, 3}, 2},
+        {"low and high that are no letter", {3, 3}, 2},
+        {"the highest bytes", {255, 255}, 2},
+        {"a last range with low above high", {0, 0, 0, 2, 2, 1}, 6},
+        {"a range in the middle with a high that is no letter", {0, 0, 2, 3, 0, 0}, 6},
+    };
+    for (size_t i = 0; i < sizeof bad / sizeof bad[0]; i++) {
+        printf("ra_accepts_ranges of T and %s\n", bad[i].name);
+        expect_no_ranged(ra_accepts_ranges(T, sizeof T, bad[i].places, bad[i].length, work, RA_WORKING_WORDS), RA_BAD_RANGES, 0);
+    }
+
+    uint8_t file[250];
+    for (size_t i = 0; i < sizeof places; i++)
+        places[i] = i % 2;
+    size_t size = letter_from_the_end(9, file);
+    printf("the ninth letter from the end: 512 live sets behind each place from the ninth on\n");
+    expect_ranged("a thousand letters", file, size, places, sizeof places, RA_SOMETIMES);
+    places[2 * 8 + 1] = 2;
+    printf("the same with a c at the ninth place: 513 live sets\n");
+    expect_no_ranged(ra_accepts_ranges(file, size, places, 2 * 9, work, RA_WORKING_WORDS), RA_TOO_MANY_LIVE_SETS, 0);
+    places[2 * 9] = places[2 * 9 + 1] = 2;
+    printf("the same, and then a c, behind which there is one: each place counts for itself\n");
+    expect_no_ranged(ra_accepts_ranges(file, size, places, 2 * 10, work, RA_WORKING_WORDS), RA_TOO_MANY_LIVE_SETS, 0);
+
+    size = many_configurations(file);
+    printf("ra_accepts_ranges of too many configurations\n");
+    expect_no_ranged(ra_accepts_ranges(file, size, NULL, 0, work, RA_WORKING_WORDS), RA_TOO_MANY_CONFIGURATIONS, 1);
+    printf("the same with a byte left over, which comes first\n");
+    expect_no_ranged(ra_accepts_ranges(file, size, places, 1, work, RA_WORKING_WORDS), RA_BAD_RANGES, 0);
+    printf("ra_accepts_ranges of T without its last byte, and a byte left over: the file's fault comes first\n");
+    expect_no_ranged(ra_accepts_ranges(T, sizeof T - 1, places, 1, work, RA_WORKING_WORDS), RA_ENDS_INSIDE_A_FIELD, 1);
+    printf("ra_accepts_ranges with a working word too few\n");
+    expect_no_ranged(ra_accepts_ranges(NULL, 0, places, 1, work, RA_WORKING_WORDS - 1), RA_TOO_LITTLE_MEMORY_LENT, 0);
+}
+
 /* Every call tells which field of an arc is wrong, and of which file. */
 static void test_arc_fields(void) {
     const enum ra_refusal fields[] = {RA_ARC_SOURCE, RA_ARC_LETTER, RA_ARC_TARGET, RA_ARC_OPERATIONS};
@@ -515,6 +627,7 @@ static void test_arc_fields(void) {
         expect_refusal(ra_close(damaged, sizeof T, out, sizeof out), fields[i], 1);
         expect_no_comparison(ra_compare(T, sizeof T, damaged, sizeof T, work, RA_WORKING_WORDS, out, RA_WORD_BYTES), fields[i], 2);
         expect_no_words(ra_count_words(damaged, sizeof T, 3, work, RA_WORKING_WORDS), fields[i], 1);
+        expect_no_ranged(ra_accepts_ranges(damaged, sizeof T, NULL, 0, work, RA_WORKING_WORDS), fields[i], 1);
     }
 }
 
@@ -533,6 +646,7 @@ int main(void) {
     test_capitals();
     test_many_letters();
     test_count_words();
+    test_accepts_ranges();
     test_arc_fields();
     printf("%d checks, %d differences\n", checks, differences);
     return differences > 0;

@@ -1,7 +1,8 @@
 //! measure engine|plain CALL REPEATS FIRST [SECOND]: makes one call so many times, and prints the best time of one in nanoseconds.
 //!
-//! CALL is read, accepts, unfold, union, concatenate, intersect, close, compare or count_words. SECOND is the second file; for accepts
-//! it is a number: the word is so many letters, in turn; for count_words it is the length. bench/run counts the instructions of a call with it.
+//! CALL is read, accepts, unfold, union, concatenate, intersect, close, compare, count_words or accepts_ranges. SECOND is the second file; for
+//! accepts it is a number: the word is so many letters, in turn; for count_words it is the length; for accepts_ranges it is the number of
+//! places, each of which can be any letter. bench/run counts the instructions of a call with it.
 
 #[path = "../tests/common/plain.rs"]
 #[allow(dead_code)]
@@ -22,6 +23,11 @@ fn word(file: &[u8], length: usize) -> Vec<u8> {
     letters.iter().copied().cycle().take(length).collect()
 }
 
+/// So many places, each with the range of all letters of the file.
+fn places(file: &[u8], count: usize) -> Vec<u8> {
+    [0, file[5] - 1].repeat(count)
+}
+
 fn main() {
     let arguments: Vec<String> = std::env::args().skip(1).collect();
     let [side, call, repeats, first, rest @ ..] = &arguments[..] else {
@@ -33,6 +39,8 @@ fn main() {
     let mut length = 0;
     let second = if call == "accepts" {
         word(&file, other.parse().expect("the length of the word"))
+    } else if call == "accepts_ranges" {
+        places(&file, other.parse().expect("the number of places"))
     } else if call == "count_words" {
         length = other.parse().expect("the length of the words");
         Vec::new()
@@ -59,6 +67,9 @@ fn main() {
         ("engine", "count_words") => {
             Box::new(|| finish(engine::count_words(&file, length, &mut work)))
         }
+        ("engine", "accepts_ranges") => {
+            Box::new(|| finish(engine::accepts_ranges(&file, &second, &mut work)))
+        }
         ("plain", "read") => Box::new(|| finish(plain::read(&file))),
         ("plain", "accepts") => Box::new(|| finish(plain::accepts(&file, &second, 8192))),
         ("plain", "unfold") => Box::new(|| finish(plain::unfold(&file, 8192, 60_000))),
@@ -68,6 +79,9 @@ fn main() {
         ("plain", "close") => Box::new(|| finish(plain::close(&file, 60_000))),
         ("plain", "compare") => Box::new(|| finish(plain::compare(&file, &second, 8192, 512))),
         ("plain", "count_words") => Box::new(|| finish(plain::count_words(&file, length, 8192))),
+        ("plain", "accepts_ranges") => {
+            Box::new(|| finish(plain::accepts_ranges(&file, &second, 8192)))
+        }
         _ => panic!("no such call: {side} {call}"),
     };
     let mut best = u128::MAX;

@@ -44,6 +44,13 @@ pub struct WordCount {
     pub automaton: u8,
 }
 
+#[repr(C)]
+pub struct Ranged {
+    pub number: u8,
+    pub automaton: u8,
+    pub answer: u8,
+}
+
 extern "C" {
     pub fn ra_read(file: *const u8, file_length: usize) -> Reading;
     pub fn ra_accepts(
@@ -109,4 +116,12 @@ extern "C" {
         work: *mut u64,
         words: usize,
     ) -> WordCount;
+    pub fn ra_accepts_ranges(
+        file: *const u8,
+        file_length: usize,
+        places: *const u8,
+        places_length: usize,
+        work: *mut u64,
+        words: usize,
+    ) -> Ranged;
 }

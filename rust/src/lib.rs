@@ -1,4 +1,5 @@
-//! Finite-state registered automata in files: read, run, unfold, join and compare them, and count their words.
+//! Finite-state registered automata in files: read, run, unfold, join and compare them, count their words, and judge words with ranges of
+//! letters.
 //!
 //! A safe function for each call of the verified engine, whose static library this crate links. The engine allocates
 //! nothing: working words and outputs are lent by the caller. It is proved that every call finishes on every input,
@@ -79,6 +80,17 @@ pub enum Comparison {
 pub struct WordCount {
     pub accepted: u64,
     pub rejected: u64,
+}
+
+/// How many of the fillings of a word are accepted, where each of its letters is known only to lie in a range.
+#[derive(Clone, Copy, Debug, PartialEq, Eq)]
+pub enum Ranged {
+    /// Every filling is accepted.
+    Always,
+    /// Some fillings are accepted, and some are not.
+    Sometimes,
+    /// No filling is accepted.
+    Never,
 }
 
 /// Is the file valid? Answers its counts, or its first fault and where that stands.
@@ -287,5 +299,44 @@ pub fn count_words(file: &[u8], length: u64, work: &mut [u64]) -> Result<WordCou
     Ok(WordCount {
         accepted: r.accepted,
         rejected: r.rejected,
+    })
+}
+
+/// Of a word of which each letter is known only to lie in a range: does the automaton of the file accept every filling, some, or none?
+/// `places` has two bytes for each letter of the word: the lowest and the highest number that it can have, both included. The numbers are
+/// those of the file's letters, from 0 on in the order of its list. A filling has a letter of each range, one behind the other. With no
+/// places the empty word is the only filling.
+///
+/// ```
+/// use registered_automata::{accepts_ranges, Ranged};
+///
+/// // c or e, any number of m, and then the first letter again; c, e and m have the numbers 0, 1 and 2
+/// let file = include_bytes!("../../samples/T.mlb");
+/// let mut work = registered_automata::working_words();
+/// let mut judge = |places: &[u8]| accepts_ranges(file, places, &mut work).unwrap();
+/// assert_eq!(judge(&[0, 0, 2, 2, 0, 0]), Ranged::Always); // cmc
+/// assert_eq!(judge(&[0, 1, 2, 2, 0, 0]), Ranged::Sometimes); // cmc or emc
+/// assert_eq!(judge(&[0, 1, 0, 2, 2, 2]), Ranged::Never); // any that ends in m
+/// ```
+///
+/// Refused, in this order: 24 with fewer than [`WORKING_WORDS`]; a fault of the file; 35 with a byte left over, a low above its high, or a
+/// high that is no letter's number; 21; 23 with more than 512 live sets behind one place, of all fillings of the places up to it.
+pub fn accepts_ranges(file: &[u8], places: &[u8], work: &mut [u64]) -> Result<Ranged, Refusal> {
+    let r = unsafe {
+        engine::ra_accepts_ranges(
+            file.as_ptr(),
+            file.len(),
+            places.as_ptr(),
+            places.len(),
+            work.as_mut_ptr(),
+            work.len(),
+        )
+    };
+    Refusal::unless(r.number, r.automaton)?;
+    Ok(match r.answer {
+        1 => Ranged::Always,
+        2 => Ranged::Sometimes,
+        3 => Ranged::Never,
+        _ => unreachable!("the engine gives no other answer"),
     })
 }

@@ -47,15 +47,18 @@ pub enum Reason {
     JoinedBeyondALimit = 11,
     TooManyConfigurations = 21,
     TooManyPlainArcs = 22,
+    /// Of a word with ranges, its fillings up to one of its places lead to so many.
     TooManyLiveSets = 23,
     TooLittleMemoryLent = 24,
     OutputTooShort = 25,
     LengthTooLarge = 31,
+    /// Of the places of a word with ranges, two bytes each.
+    BadRanges = 35,
 }
 
 impl Reason {
     /// All of them, in the order of their numbers.
-    pub const ALL: [Reason; 19] = [
+    pub const ALL: [Reason; 20] = [
         Reason::EndsInsideAField,
         Reason::Mark,
         Reason::Version,
@@ -75,6 +78,7 @@ impl Reason {
         Reason::ArcLetter,
         Reason::ArcTarget,
         Reason::ArcOperations,
+        Reason::BadRanges,
     ];
 
     /// The number of the refusal.
@@ -110,6 +114,7 @@ impl Reason {
             Reason::TooLittleMemoryLent => "less working memory than 8192 words, or less room for a word than 512 bytes",
             Reason::OutputTooShort => "less room than the result has bytes",
             Reason::LengthTooLarge => "the length is above 64, or more than 18446744073709551615 words have it",
+            Reason::BadRanges => "a byte is left over, or a range has its low above its high or its high not below the number of letters",
         }
     }
 }

@@ -1,4 +1,4 @@
-//! Every call of the engine against a plain implementation of the requirements, on seeded random files, words and couples.
+//! Every call of the engine against a plain implementation of the requirements, on seeded random files, words, ranges and couples.
 //!
 //! `cargo test` takes a short run. `SEEDS=100000 cargo test --release -- --nocapture` takes a long one; `FIRST=n` begins
 //! at seed n. A failing seed is printed; `FIRST=n SEEDS=1` runs it alone.
@@ -203,6 +203,57 @@ fn try_count_words(seed: u64, r: &mut Random) {
     }
 }
 
+/// A file, the places of a word with ranges of its letters, and how many working words are lent.
+fn word_with_ranges(r: &mut Random) -> (Vec<u8>, Vec<u8>, usize) {
+    let letters = random::letters(r);
+    let file = random::ranged(r, &letters);
+    let places = random::places(r, letters.len());
+    let lent = if r.one_in(30) { 8191 } else { 8192 };
+    (file, places, lent)
+}
+
+fn try_accepts_ranges(seed: u64, r: &mut Random) {
+    let (file, places, lent) = word_with_ranges(r);
+    let mut work = words(r, lent);
+    let answer = engine::accepts_ranges(&file, &places, &mut work)
+        .map(|answer| match answer {
+            engine::Ranged::Always => plain::Ranged::Always,
+            engine::Ranged::Sometimes => plain::Ranged::Sometimes,
+            engine::Ranged::Never => plain::Ranged::Never,
+        })
+        .map_err(refusal);
+    let expected = plain::accepts_ranges(&file, &places, lent);
+    assert_eq!(answer, expected, "seed {seed}");
+}
+
+/// The random words with ranges have every answer where there is a place at least, and every refusal that there can be of a valid file.
+#[test]
+fn words_with_ranges_of_every_kind_are_met() {
+    let mut met = BTreeMap::new();
+    for seed in 1..=600 {
+        let (file, places, lent) = word_with_ranges(&mut Random::new(seed));
+        let kind = match plain::accepts_ranges(&file, &places, lent) {
+            Ok(_) if places.is_empty() => "no places".to_string(),
+            Ok(answer) => format!("{answer:?}"),
+            Err(refusal) => refusal.number.to_string(),
+        };
+        *met.entry(kind).or_insert(0) += 1;
+    }
+    let kinds = [
+        "no places",
+        "Always",
+        "Sometimes",
+        "Never",
+        "21",
+        "23",
+        "24",
+        "35",
+    ];
+    for kind in kinds {
+        assert!(met.get(kind) > Some(&5), "{kind}: {met:?}");
+    }
+}
+
 /// The random couples have letter lists of every kind: the same in other bytes, the same letters at other places, some shared, none shared,
 /// one of them empty, and 64 and 65 letters together. And a list may ascend and have a letter in both cases.
 #[test]
@@ -288,7 +339,7 @@ fn every_call_answers_as_the_plain_implementation() {
     let seeds = number_from("SEEDS", 4_000);
     for seed in first..first + seeds {
         let r = &mut Random::new(seed);
-        match r.below(9) {
+        match r.below(10) {
             0 => try_read(seed, r),
             1 => try_accepts(seed, r),
             2 => try_unfold(seed, r),
@@ -297,6 +348,7 @@ fn every_call_answers_as_the_plain_implementation() {
             5 => try_join(seed, r, engine::intersect, plain::intersect),
             6 => try_close(seed, r),
             7 => try_count_words(seed, r),
+            8 => try_accepts_ranges(seed, r),
             _ => try_compare(seed, r),
         }
     }

@@ -1,10 +1,11 @@
 //! Every limit of the requirements: a file, a couple or a join just at it, and one just beyond it. And the fields of an arc: every
 //! byte in each, and several wrong at once. And which bytes stand for one letter: every byte beside every other. And two files with
-//! letters of their own.
+//! letters of their own. And every two bytes as a range of letters.
 
 mod common;
 
 use common::plain::{self, write, Arc, Automaton, Operation};
+use common::random::letter_from_the_end;
 use registered_automata as engine;
 
 /// The operation of an arc that always passes.
@@ -161,6 +162,7 @@ fn every_call_tells_which_field_of_an_arc_is_wrong() {
         let second = refusal(reason, Some(engine::Automaton::Second));
         assert_eq!(engine::accepts(&file, b"cc", &mut work), Err(first));
         assert_eq!(engine::count_words(&file, 3, &mut work), Err(first));
+        assert_eq!(engine::accepts_ranges(&file, &[], &mut work), Err(first));
         assert_eq!(engine::unfold(&file, &mut work, &mut out), Err(first));
         assert_eq!(engine::close(&file, &mut out), Err(first));
         for (join, _) in JOINS {
@@ -734,6 +736,10 @@ fn working_words_and_bytes_of_the_word() {
         assert_eq!(number(engine::unfold(&file, &mut work, &mut out)), expected);
         assert_eq!(number(engine::count_words(&file, 2, &mut work)), expected);
         assert_eq!(
+            number(engine::accepts_ranges(&file, &[0, 0], &mut work)),
+            expected
+        );
+        assert_eq!(
             number(engine::compare(&file, &file, &mut work, &mut word)),
             expected
         );
@@ -1101,4 +1107,199 @@ fn refusals_of_counting_in_their_order() {
     assert_eq!(counted(cut, 65), Err((1, Some(engine::Automaton::First))));
     assert_eq!(counted(&too_many, 65), Err((31, None)));
     assert_eq!(counted(&tail_and_cycles(17, b"a"), 65), Err((31, None)));
+}
+
+// ---- words with ranges of letters
+
+/// How many fillings are accepted, or the number of the refusal and whose it is; the plain implementation answers the same.
+fn judged(file: &[u8], places: &[u8]) -> Result<engine::Ranged, (u8, Option<engine::Automaton>)> {
+    let answer = engine::accepts_ranges(file, places, &mut engine::working_words());
+    let plainly = plain::accepts_ranges(file, places, 8192).map(|answer| match answer {
+        plain::Ranged::Always => engine::Ranged::Always,
+        plain::Ranged::Sometimes => engine::Ranged::Sometimes,
+        plain::Ranged::Never => engine::Ranged::Never,
+    });
+    assert_eq!(
+        answer.map_err(|e| e.reason.number()),
+        plainly.map_err(|e| e.number)
+    );
+    answer.map_err(|e| (e.reason.number(), e.automaton))
+}
+
+/// The ranges that have all three letters of T, or c and e, or m alone.
+const ANY: [u8; 2] = [0, 2];
+const C_OR_E: [u8; 2] = [0, 1];
+const M: [u8; 2] = [2, 2];
+
+/// T accepts c or e, any number of m, and then the first letter again; U does not ask for the first letter.
+#[test]
+fn fillings_of_t_and_u() {
+    use engine::Ranged::{Always, Never, Sometimes};
+    let t = include_bytes!("../../samples/T.mlb").as_slice();
+    let u = include_bytes!("../../samples/U.mlb").as_slice();
+    let cases = [
+        (vec![], Never, Never),
+        (vec![ANY], Never, Never),
+        (vec![ANY, ANY], Sometimes, Sometimes),
+        (vec![C_OR_E, C_OR_E], Sometimes, Always),
+        (vec![C_OR_E, M, M, C_OR_E], Sometimes, Always),
+        (vec![C_OR_E, ANY, C_OR_E], Sometimes, Sometimes),
+        (vec![C_OR_E, C_OR_E, M], Never, Never),
+        (vec![M, ANY, ANY], Never, Never),
+        (vec![[1, 1], M, [1, 1]], Always, Always),
+        (vec![[1, 1], M, [0, 0]], Never, Always),
+    ];
+    for (places, of_t, of_u) in cases {
+        assert_eq!(judged(t, &places.concat()), Ok(of_t), "{places:?}");
+        assert_eq!(judged(u, &places.concat()), Ok(of_u), "{places:?}");
+    }
+}
+
+/// With no places the empty word is the only filling.
+#[test]
+fn no_places() {
+    for letters in [0, 1, 64] {
+        let accepted = judged(&one_state(letters, letters, true), &[]);
+        assert_eq!(accepted, Ok(engine::Ranged::Always));
+        let rejected = judged(&one_state(letters, letters, false), &[]);
+        assert_eq!(rejected, Ok(engine::Ranged::Never));
+    }
+}
+
+/// Every two bytes at the first place, at the last, and between: they are a range where the first is not above the second, and the second
+/// below the number of letters.
+#[test]
+fn every_two_bytes_as_a_range() {
+    let mut work = engine::working_words();
+    for letters in [0, 1, 3, 64] {
+        let file = one_state(letters, letters, true);
+        let whole = [0, letters.saturating_sub(1) as u8];
+        let counts = match letters {
+            0 => vec![(1, 0)],
+            _ => vec![(1, 0), (3, 0), (3, 1), (3, 2)],
+        };
+        for (count, at) in counts {
+            let mut places = whole.repeat(count);
+            for low in 0..=255 {
+                for high in 0..=255 {
+                    places[2 * at] = low;
+                    places[2 * at + 1] = high;
+                    let expected = if low <= high && (high as usize) < letters {
+                        Ok(engine::Ranged::Always)
+                    } else {
+                        Err(refusal(engine::Reason::BadRanges, None))
+                    };
+                    let answer = engine::accepts_ranges(&file, &places, &mut work);
+                    assert_eq!(answer, expected, "{letters} letters, {places:?}");
+                }
+            }
+        }
+    }
+}
+
+#[test]
+fn a_byte_left_over() {
+    for letters in [0, 1, 3, 64] {
+        let file = one_state(letters, letters, true);
+        for byte in [0, 1, 2, 3, 63, 64, 255] {
+            assert_eq!(judged(&file, &[byte]), Err((35, None)));
+            assert_eq!(judged(&file, &[0, 0, byte]), Err((35, None)));
+        }
+    }
+}
+
+/// The range of the letters a and b, as often as asked, then these ranges.
+fn a_or_b(times: usize, then: &[[u8; 2]]) -> Vec<u8> {
+    [[0, 1].repeat(times), then.concat()].concat()
+}
+
+/// Is the letter at this place from the end an a? Over a, b and c, which leaves nothing live. Behind n places of a or b there are two live
+/// sets to the power n, but never more than to the power of that place.
+fn from_the_end(place: usize) -> Vec<u8> {
+    write(&letter_from_the_end(place, b"abc"))
+}
+
+/// Behind the ninth place there are 512 live sets; with c, which leads to the empty one, 513. 512 pass behind each of many places.
+#[test]
+fn live_sets_behind_a_place() {
+    use engine::Ranged::{Never, Sometimes};
+    const A_TO_C: [u8; 2] = [0, 2];
+    const C: [u8; 2] = [2, 2];
+    let ninth = from_the_end(9);
+    assert_eq!(judged(&ninth, &a_or_b(8, &[])), Ok(Never));
+    assert_eq!(judged(&ninth, &a_or_b(9, &[])), Ok(Sometimes));
+    assert_eq!(judged(&ninth, &a_or_b(8, &[A_TO_C])), Err((23, None)));
+    assert_eq!(judged(&ninth, &a_or_b(7, &[A_TO_C])), Ok(Never));
+    // Each place counts for itself: those behind several are not added up.
+    assert_eq!(judged(&ninth, &a_or_b(100, &[])), Ok(Sometimes));
+    assert_eq!(judged(&ninth, &a_or_b(99, &[A_TO_C])), Err((23, None)));
+    assert_eq!(judged(&ninth, &a_or_b(9, &[C])), Ok(Never));
+    // A later place behind which there is one live set alone changes nothing.
+    let harmless = a_or_b(8, &[A_TO_C, C, C]);
+    assert_eq!(judged(&ninth, &harmless), Err((23, None)));
+    let tenth = from_the_end(10);
+    assert_eq!(judged(&tenth, &a_or_b(9, &[C])), Ok(Never));
+    assert_eq!(judged(&tenth, &a_or_b(9, &[[0, 0]])), Ok(Sometimes));
+    assert_eq!(judged(&tenth, &a_or_b(10, &[])), Err((23, None)));
+    assert_eq!(judged(&tenth, &a_or_b(10, &[C])), Err((23, None)));
+    // A letter that is known keeps the live sets as many as they are.
+    let known = [&a_or_b(5, &[[1, 1]])[..], &a_or_b(4, &[])].concat();
+    assert_eq!(judged(&tenth, &known), Ok(Sometimes));
+    let known = [&a_or_b(5, &[[1, 1]])[..], &a_or_b(5, &[])].concat();
+    assert_eq!(judged(&tenth, &known), Ok(Sometimes));
+}
+
+#[test]
+fn configurations_in_ranges() {
+    let places = [0; 2 * 255];
+    let answer = judged(&chain(256, false), &places);
+    assert_eq!(answer, Ok(engine::Ranged::Always));
+    let answer = judged(&chain(256, true), &[]);
+    assert_eq!(answer, Err((21, Some(engine::Automaton::First))));
+}
+
+#[test]
+fn ranges_know_no_limit_of_plain_arcs() {
+    for places in [&[][..], &[0, 0], &[0; 40]] {
+        let answer = judged(&plain_arcs(true), places);
+        assert_eq!(answer, Ok(engine::Ranged::Always));
+    }
+}
+
+/// There is no limit on the number of places.
+#[test]
+fn many_places() {
+    let mut work = engine::working_words();
+    let file = tail_and_cycle(0, 31);
+    let mut x = plain::read(&file).unwrap();
+    x.finals = (0..31).map(|state| state == 5).collect();
+    let file = write(&x);
+    for (count, expected) in [
+        (31 * 10_000 + 5, engine::Ranged::Always),
+        (31 * 10_000 + 6, engine::Ranged::Never),
+    ] {
+        let answer = engine::accepts_ranges(&file, &vec![0; 2 * count], &mut work);
+        assert_eq!(answer, Ok(expected));
+    }
+}
+
+/// The first of several refusals: 24, the file's fault, 35, 21, 23.
+#[test]
+fn refusals_of_ranges_in_their_order() {
+    let first = Some(engine::Automaton::First);
+    let too_many = chain(256, true);
+    let cut = &too_many[..too_many.len() - 1];
+    for bad in [&[0][..], &[1, 0], &[0, 1], &[0, 0, 0]] {
+        let mut few = vec![0; 8191];
+        assert_eq!(number(engine::accepts_ranges(cut, bad, &mut few)), 24);
+        assert_eq!(judged(cut, bad), Err((1, first)));
+        assert_eq!(judged(&too_many, bad), Err((35, None)));
+    }
+    assert_eq!(judged(&too_many, &[0, 0]), Err((21, first)));
+    // Behind the tenth place there are too many live sets, and the next range is none.
+    let tenth = from_the_end(10);
+    for bad in [[1, 0], [0, 3], [3, 3]] {
+        assert_eq!(judged(&tenth, &a_or_b(10, &[bad])), Err((35, None)));
+    }
+    assert_eq!(judged(&tenth, &a_or_b(11, &[])), Err((23, None)));
 }

@@ -103,6 +103,60 @@ fn unfolding_keeps_the_number_of_words() {
     }
 }
 
+fn judged(file: &[u8], places: &[u8]) -> engine::Ranged {
+    engine::accepts_ranges(file, places, &mut engine::working_words()).expect("within the limits")
+}
+
+/// The letter numbers of a word; none where a byte is no letter.
+fn numbers(file: &[u8], word: &[u8]) -> Option<Vec<u8>> {
+    let letters = &file[12..12 + file[5] as usize];
+    let number = |byte: &u8| letters.iter().position(|l| l.eq_ignore_ascii_case(byte));
+    word.iter().map(|b| number(b).map(|n| n as u8)).collect()
+}
+
+/// A word whose letters are known is its only filling.
+#[test]
+fn words_as_ranges_of_one_letter_each() {
+    for name in names() {
+        for file in [file(&name), unfolded(&file(&name))] {
+            for (accepted, word) in words(&name) {
+                let Some(numbers) = numbers(&file, &word) else {
+                    continue;
+                };
+                let places: Vec<u8> = numbers.iter().flat_map(|&n| [n, n]).collect();
+                let expected = if accepted {
+                    engine::Ranged::Always
+                } else {
+                    engine::Ranged::Never
+                };
+                assert_eq!(judged(&file, &places), expected, "{name}: {numbers:?}");
+            }
+        }
+    }
+}
+
+/// Ranges of all letters: the fillings are the words of that length, and how many of them are accepted is counted too.
+#[test]
+fn ranges_of_all_letters() {
+    for name in names() {
+        for file in [file(&name), unfolded(&file(&name))] {
+            let letters = file[5];
+            let longest = if letters == 0 { 0 } else { 10 };
+            for length in 0..=longest {
+                let count = engine::count_words(&file, length, &mut engine::working_words())
+                    .expect("within the limits");
+                let expected = match (count.accepted, count.rejected) {
+                    (0, _) => engine::Ranged::Never,
+                    (_, 0) => engine::Ranged::Always,
+                    _ => engine::Ranged::Sometimes,
+                };
+                let places = [0, letters.saturating_sub(1)].repeat(length as usize);
+                assert_eq!(judged(&file, &places), expected, "{name}, {length} letters");
+            }
+        }
+    }
+}
+
 #[test]
 fn three_states_and_two_registers_are_enough() {
     assert!(matches!(

@@ -80,13 +80,13 @@ module _ {X : Type 0} (same : X → X → Bool) where
       old : T (has same x l) → T (has same x (z ∷ l))
       old t = let p = (has-iff x l) .0 t in (has-iff x (z ∷ l)) .1 (p .0, List·Memᴰ·tail (p .1), p .2)
 
-  addAll-distinct : (l xs : List X) → Distinct same l → Distinct same (addAll same l xs)
+  pub addAll-distinct : (l xs : List X) → Distinct same l → Distinct same (addAll same l xs)
   unfolding addAll
   addAll-distinct l [] d = d
   addAll-distinct l (x ∷ xs) d = addAll-distinct (add same l x) xs (⊎-elim (λ p. rw (p .1) d) (λ p. rw (p .1) (snoc-distinct l x (p .0) d)) (add-cases l x))
 
   module _ (same-refl : (x : X) → T (same x x)) where
-    addAll-has : (l xs : List X) {y : X} → List·Memᴰ y xs → T (has same y (addAll same l xs))
+    pub addAll-has : (l xs : List X) {y : X} → List·Memᴰ y xs → T (has same y (addAll same l xs))
     unfolding addAll
     addAll-has l [] m = absurd (List·Memᴰ·not-nil m)
     addAll-has l (x ∷ xs) {y} m = ⊎-elim (λ (e : y ≡ x). rw e here) (λ (k : List·Memᴰ y xs). addAll-has (add same l x) xs k) (List·Memᴰ·cases-cons m)

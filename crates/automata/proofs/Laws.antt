@@ -2,13 +2,15 @@
 -- the theorems, each in a statement that can be read by itself
 pub use Rattle.automata.proofs.Theorems.{closing, comparing, comparing-more, concatenating, counting-more, counting-unique, counting-words, intersecting, living-same, membership, pairing, reaching-more, unfolding-language, uniting}
 -- small laws of lists, options and tests that the library lacks
-pub use Rattle.automata.proofs.ListLaws.{and-iff, any-iff, at-back, at-front, at-map, at-mem, at-none, at-some, bool-ext, countFrom-iff, each-at, each-join, each-mem, each-split, eqb-iff, getElem?-append, getElem?-lt, getElem?-none, getElem?-some, iff-trans, map-append, map-map, mem-at, mem-each, none-some, not-iff, or-iff, sameBy-iff, snoc-at-cases}
+pub use Rattle.automata.proofs.ListLaws.{and-iff, any-iff, at-back, at-front, at-map, at-mem, at-none, at-some, bool-ext, countFrom-iff, each-at, each-join, each-mem, each-split, eqb-iff, flatMap-iff, getElem?-append, getElem?-lt, getElem?-none, getElem?-some, iff-trans, map-append, map-map, mem-at, mem-each, none-some, not-iff, or-iff, sameBy-iff, snoc-at-cases}
 -- runs one after the other, and runs carried over to other moves
 pub use Rattle.automata.proofs.RunLaws.{joined}
 -- what is computed of operations and arcs is what document 003 relates
 pub use Rattle.automata.proofs.PerformingLaws.{successors-iff}
 -- the walk numbers exactly what can be reached, each once, or shows more than its limit
-pub use Rattle.automata.proofs.ExplorationLaws.{add-cases, addAll-at, addAll-length, has-iff, known-distinct, known-ended, known-long, known-sound}
+pub use Rattle.automata.proofs.ExplorationLaws.{add-cases, addAll-at, addAll-cases, addAll-distinct, addAll-has, addAll-length, distinct-apart, has-iff, known-distinct, known-ended, known-long, known-sound}
+-- how many things have a property: more than n is not n of them, and the same of a property that says the same
+pub use Rattle.automata.proofs.CountingLaws.{counts-same, more-same, not-more}
 -- the number of an element in a list: what it is of a member, of a new one, and that a number once given stays
 pub use Rattle.automata.proofs.NumberLaws.{add-new, add-old, addAll-prefix, known-prefix, number-add, number-append, number-at, one-number}
 -- exploring is the same on images, where f tells apart what the tests tell apart, on elements that have a property P.
@@ -31,8 +33,9 @@ pub use Rattle.automata.proofs.PairLaws.{samePair-iff, shown-many}
 pub use Rattle.automata.proofs.LanguageLaws.{same-language}
 -- exploring by letters: the state of the empty word has the first number, and once the walk has ended every letter stays among what was met
 pub use Rattle.automata.proofs.SearchLaws.{met-closed, met-first}
--- the live sets of one automaton: two are the same just if the test says so; and they are met as the pairs of the automaton and itself are
-pub use Rattle.automata.proofs.LiveSetLaws.{sameSet-iff}
+-- the live sets of one automaton: two are the same just if the test says so, a word leads to its own, which is accepted just if the word is; and
+-- they are met as the pairs of the automaton and itself are
+pub use Rattle.automata.proofs.LiveSetLaws.{from-start, led-accepts, sameSet-iff}
 pub use Rattle.automata.proofs.TwinWalk.{twins-met}
 -- sums over the letters, and that no more words of one length are counted than a number that all of them do not exceed
 pub use Rattle.automata.proofs.SumLaws.{many-fits, sum-ext, sum-part}

@@ -35,7 +35,8 @@ module _ (x : Automaton) (L : ℕ) where
   leads-from S [] = refl
   leads-from S (l ∷ w) = leads-from (behind x L S l) w
 
-  from-start : (v : List ℕ) → leads (behind x L) (liveSet x L []) v ≡ liveSet x L v
+  -- from the live set of the empty word a word leads to its own
+  pub from-start : (v : List ℕ) → leads (behind x L) (liveSet x L []) v ≡ liveSet x L v
   unfolding liveSet live
   from-start v = leads-from (liveSet x L []) v
 

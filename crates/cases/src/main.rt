@@ -2,7 +2,7 @@
 // A record is an operation (1 byte), four numbers of 4 bytes, low byte first, namely the length of the first bytes, the
 // length of the second bytes, number one and number two, and then the first bytes and the second bytes.
 // The run ends where the input ends, also inside a record, at a record that asks for more than the buffers hold, and at
-// an operation that is none of the nine, which the line `unknown` tells.
+// an operation that is none of the ten, which the line `unknown` tells.
 ghost use Prim.Native.Nat.{_<_, _≤_};
 ghost use lib.ListN.{length};
 use file_writing::Written;
@@ -44,7 +44,7 @@ fn number(head: &[u8; 17], at: usize) -> usize
 // How many working words an operation lends, by the record's number one. Cost: constant.
 fn words_lent(operation: u8, one: usize) -> usize {
     match operation {
-        2 | 7 | 8 | 9 => one,
+        2 | 7..=10 => one,
         _ => 0,
     }
 }
@@ -127,6 +127,7 @@ fn answer(
         }
         8 => line_comparison::case_line(compare::compare(first, second, work, out), out, line),
         9 => line_counts::word_count_line(count::count_words(first, letters as u64, work), line),
+        10 => line_ranges::ranged_line(ranges::accepts_ranges(first, second, work), line),
         _ => 0,
     }
 }

@@ -16,7 +16,7 @@ use Rattle.file_fields.specs.declared.Counts.{Counts}
 use Rattle.format.specs.Decoding.{automatonOf}
 use Rattle.word_fields.specs.Frame.{Kept}
 use Rattle.word_sets.specs.Sets.{view, εClosedSet}
-use Rattle.word_layout.specs.Layout.{letterSets, onlyBlock}
+use Rattle.word_layout.specs.Layout.{letterSets, onlyBlock, setTable}
 use Rattle.word_layout.specs.declared.Block.{Block}
 use Rattle.word_layout.specs.declared.SetTable.{SetTable}
 use Rattle.table.specs.Standing.{Stands}
@@ -26,9 +26,8 @@ use Rattle.live_table.specs.declared.Grown.{Grown}
 use Rattle.live_table.specs.declared.Grown.the-variants.{TooMany, Total}
 use Rattle.live_letters.specs.Meeting.{Grows}
 use Rattle.live_search.specs.Exploring.{Searchable, SetsOutcome}
+use Rattle.live_building.proofs.Laws.{tabled}
 use Rattle.count_targets.specs.Counting.{Counting, setsOf}
-use Rattle.count_targets.specs.Targets.{setTable}
-use Rattle.count_targets.proofs.Laws.{tabled}
 
 module _ {file : List ℕ} {c : Counts} {w : List ℕ} {block : Block} (h : Stands file c w block) (only : block .base ≡ onlyBlock) (enough : 8192 ≤ length w) where
   abbrev x : Automaton

@@ -1,18 +1,12 @@
--- Answers: what is left of counting behind the refusals that are ruled out already, and what building leaves in the words.
+-- Answers: what is left of counting behind the refusals that are ruled out already.
 use mathlib.Core.List.{List, [], _∷_}
-use Prim.Native.Nat.{ℕ, _<_}
+use Prim.Native.Nat.{ℕ}
 use lib.Dec.{ltb}
 use lib.ListN.{length}
 use Rattle.automata.specs.Automaton.{Automaton}
 use Rattle.automata.specs.LiveSets.{liveSets}
 use Rattle.automata.specs.Unfolding.{configurations, liveSet}
-use Rattle.file_fields.specs.declared.Counts.{Counts}
-use Rattle.format.specs.Decoding.{automatonOf}
 use Rattle.format.specs.Refusals.{unlessRefused}
-use Rattle.word_layout.specs.Layout.{onlyBlock}
-use Rattle.table_configurations.specs.declared.Explored.{Explored}
-use Rattle.table_configurations.specs.declared.Explored.the-variants.{Tables, TooMany}
-use Rattle.table.specs.Standing.{Stands}
 use Rattle.count_promise.specs.WordCounts.{countsOf, limitRefusals}
 use Rattle.count_promise.specs.declared.WordCount.{WordCount}
 use Rattle.count_promise.specs.declared.WordCount.the-variants.{Refused}
@@ -26,8 +20,3 @@ limitsAnswer L P longest most x size = unlessRefused Refused (limitRefusals L P 
 unfoldable pub setsAnswer : (L P : ℕ) → Automaton → (size : ℕ) → WordCount
 unfolding unlessRefused
 setsAnswer L P x size = unlessRefused Refused ((ltb P (length (liveSets x L (liveSet x L []) P)), 23, 0) ∷ []) (countsOf L x size)
-
--- what building answers: there are more than 256 configurations, or the automaton stands in its block
-abbrev pub PrunedBy : (file : List ℕ) (c : Counts) (w : List ℕ) → Explored → Type 0
-PrunedBy file c w TooMany = 256 < length (configurations (automatonOf file) 256)
-PrunedBy file c w (Tables count plain) = Stands file c w (record { base = onlyBlock; count = count; plain = plain })

@@ -9,13 +9,13 @@ ghost use Rattle.word_layout.specs.Layout.{onlyBlock};
 ghost use Rattle.table.specs.Standing.{Stands};
 ghost use Rattle.count_promise.specs.WordCounts.{wordCountOf};
 ghost use Rattle.count.specs.Answers.{limitsAnswer, setsAnswer};
-use building::build_pruned;
 pub use count_promise::WordCount;
 use count_rounds::count_rounds;
 use count_sums::Total;
 use count_sums::all_words;
-use count_targets::set_table;
 use format::Counts;
+use live_building::build_pruned;
+use live_building::set_table;
 use live_search::explore_sets;
 use live_table::Grown;
 use table::finals::final_configurations;
@@ -24,8 +24,6 @@ use table_list_steps::start_set;
 use word_layout::Block;
 use word_layout::LETTER_SETS;
 use word_layout::ONLY_BLOCK;
-
-mod building;
 
 // The automaton of a valid file stands in its block, and there are `total` words of `size` letters. All its live sets are found, and the
 // words are counted by them. Refuses 23: more than 512 live sets.

@@ -18,13 +18,13 @@ use Rattle.format.specs.Decoding.{automatonOf}
 use Rattle.word_fields.specs.Frame.{Kept}
 use Rattle.word_fields.proofs.Laws.{kept-same, kept-set, kept-then, kept-wider}
 use Rattle.word_sets.specs.Sets.{Within, view}
-use Rattle.word_layout.specs.Layout.{counts, letterSets}
+use Rattle.word_layout.specs.Layout.{counts, letterSets, setTable}
 use Rattle.word_layout.specs.declared.Block.{Block}
 use Rattle.live_table.specs.SetRows.{leftRow}
 use Rattle.live_table.proofs.Laws.{left-kept}
+use Rattle.live_building.proofs.Laws.{tabled}
 use Rattle.count_targets.specs.Counting.{Counting, setNumbered}
-use Rattle.count_targets.specs.Targets.{setTable}
-use Rattle.count_targets.proofs.Laws.{counting-letters, numbered-first, numbered-view, tabled}
+use Rattle.count_targets.proofs.Laws.{counting-letters, numbered-first, numbered-view}
 use Rattle.count_rounds.specs.Rounds.{Counted, Ended, endsIn, manyOf}
 
 -- ---- the first i ends are counted

@@ -11,11 +11,10 @@ use Rattle.automata.specs.LiveSets.{acceptsSet, behind}
 use Rattle.file_fields.specs.declared.Counts.{Counts}
 use Rattle.format.specs.Decoding.{automatonOf}
 use Rattle.word_sets.specs.Sets.{Within, view}
-use Rattle.word_layout.specs.Layout.{counts}
+use Rattle.word_layout.specs.Layout.{counts, setTable}
 use Rattle.word_layout.specs.declared.Block.{Block}
 use Rattle.live_table.specs.SetRows.{leftRow}
 use Rattle.count_targets.specs.Counting.{Counting, Noted, setNumbered}
-use Rattle.count_targets.specs.Targets.{setTable}
 
 -- how many words of k letters lead from the live set with number i to one that is accepted, of a letters
 unfoldable pub manyOf : (file : List ℕ) (a k i : ℕ) → ℕ

@@ -17,16 +17,15 @@ use Rattle.format.specs.Decoding.{automatonOf}
 use Rattle.file_laws.proofs.Laws.{valid-ranges}
 use Rattle.word_fields.specs.Frame.{Kept}
 use Rattle.word_sets.specs.Sets.{view, εClosedSet}
-use Rattle.word_layout.specs.Layout.{letterSets, offsets}
+use Rattle.word_layout.specs.Layout.{letterSets, offsets, setTable}
 use Rattle.word_layout.specs.declared.Block.{Block}
 use Rattle.table_sets.specs.Stepping.{Room}
 use Rattle.table.proofs.Laws.{letters-are, stands-kept, stands-numbered}
 use Rattle.live_table.specs.SetRows.{leftRow}
 use Rattle.live_table.proofs.Laws.{left-kept}
 use Rattle.live_letters.proofs.Laws.{table-kept}
+use Rattle.live_building.proofs.Laws.{tabled}
 use Rattle.count_targets.specs.Counting.{Counting, setNumbered, setsOf}
-use Rattle.count_targets.specs.Targets.{setTable}
-use Rattle.count_targets.proofs.Numbering.{tabled}
 
 some-one : {A : Type 0} {x y : A} → some x ≡ some y → x ≡ y
 some-one e = cc

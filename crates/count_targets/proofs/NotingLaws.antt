@@ -11,7 +11,7 @@ use Rattle.automata.specs.Unfolding.{plainArcs}
 use Rattle.file_fields.specs.declared.Counts.{Counts}
 use Rattle.format.specs.Decoding.{automatonOf}
 use Rattle.word_sets.specs.Sets.{inSet, view, εClosedSet}
-use Rattle.word_layout.specs.Layout.{letterSets}
+use Rattle.word_layout.specs.Layout.{letterSets, setTable}
 use Rattle.word_layout.specs.declared.Block.{Block}
 use Rattle.table_sets.specs.Stepping.{setOf}
 use Rattle.table.proofs.Laws.{stands-many}
@@ -19,7 +19,7 @@ use Rattle.live_table.specs.SetRows.{leftRow}
 use Rattle.live_letters.proofs.Laws.{same-members}
 use Rattle.count_sums.specs.Sums.{targetAt}
 use Rattle.count_targets.specs.Counting.{Counting, Noted, setNumbered}
-use Rattle.count_targets.specs.Targets.{NumberOf, Numbers, setTable}
+use Rattle.count_targets.specs.Targets.{NumberOf, Numbers}
 use Rattle.count_targets.proofs.CountingLaws.{counting-letters, numbered-behind, numbered-view}
 use Rattle.live_sets.proofs.Laws.{same-row}
 

@@ -17,18 +17,15 @@ use Rattle.word_fields.proofs.Laws.{kept-same, kept-then, kept-wider}
 use Rattle.word_sets.specs.Sets.{inSet}
 use Rattle.word_sets.proofs.Laws.{Four, has-bit}
 use Rattle.word_rows.proofs.Laws.{row-above}
-use Rattle.word_layout.specs.Layout.{Tabled, letterSets, targets}
+use Rattle.word_layout.specs.Layout.{letterSets, setTable, targets}
 use Rattle.table_sets.specs.Stepping.{setOf}
 use Rattle.table_sets.proofs.Laws.{same-sets, set-off}
 use Rattle.live_table.specs.SetRows.{RowAt, RowChain, leftRow}
 use Rattle.live_table.proofs.Laws.{lacking, left-kept, rows-kept}
 use Rattle.live_sets.proofs.Laws.{same-row}
+use Rattle.live_building.proofs.Laws.{tabled}
 use Rattle.count_sums.specs.Sums.{targetAt}
-use Rattle.count_targets.specs.Targets.{EmptyNumber, NumberOf, Numbers, setTable}
-
--- the table lies below the sets of the letters
-pub tabled : {w : List ℕ} → letterSets ≤ length w → Tabled w setTable
-tabled h = record { one-or-two = inl refl; before = omega arith; long = omega arith }
+use Rattle.count_targets.specs.Targets.{EmptyNumber, NumberOf, Numbers}
 
 -- what is found is the number
 pub found-number : {w u : List ℕ} {n r : ℕ} → letterSets ≤ length w → n ≤ 512 → ((j : ℕ) → getD w j 0 < 2 ^ 64) → Four u → Found (RowAt setTable w u u) n r → NumberOf w n u r

@@ -9,13 +9,12 @@ use Rattle.automata.specs.LiveSets.{behind, liveSets}
 use Rattle.automata.specs.Unfolding.{liveSet, plainArcs}
 use Rattle.file_fields.specs.declared.Counts.{Counts}
 use Rattle.format.specs.Decoding.{automatonOf}
-use Rattle.word_layout.specs.Layout.{onlyBlock}
+use Rattle.word_layout.specs.Layout.{onlyBlock, setTable}
 use Rattle.word_layout.specs.declared.Block.{Block}
 use Rattle.table.specs.Standing.{Stands}
 use Rattle.live_letters.specs.Meeting.{Table}
 use Rattle.live_search.specs.Exploring.{Sets}
 use Rattle.count_sums.specs.Sums.{targetAt}
-use Rattle.count_targets.specs.Targets.{setTable}
 
 -- the live sets of the automaton in a file, in number order
 unfoldable pub setsOf : (file : List ℕ) → List (List Bool)

@@ -2,15 +2,10 @@
 use mathlib.Core.Path.{_≡_}
 use mathlib.Core.List.{List, [], _∷_}
 use Prim.Native.Nat.{ℕ, _+_, _≤_, _<_}
-use Rattle.word_layout.specs.Layout.{letterSets, setIndex, setRows}
-use Rattle.word_layout.specs.declared.SetTable.{SetTable}
+use Rattle.word_layout.specs.Layout.{letterSets, setTable}
 use Rattle.table_sets.specs.Stepping.{setOf}
 use Rattle.live_table.specs.SetRows.{Lacking, leftRow}
 use Rattle.count_sums.specs.Sums.{targetAt}
-
--- the table of live sets, one set to a row
-abbrev pub setTable : SetTable
-setTable = record { rows = setRows; sets = 1; index = setIndex }
 
 -- r is the number of the row that has the set u, among the first n, or n where none has it
 pub record NumberOf (w : List ℕ) (n : ℕ) (u : List ℕ) (r : ℕ) : Type 0 where

@@ -4,12 +4,13 @@ ghost use Prim.Native.Nat.{ℕ, _+_, _*_, _≤_, _<_};
 ghost use lib.ListN.{length};
 ghost use Rattle.word_fields.specs.Fields.{field};
 ghost use Rattle.word_fields.specs.Frame.{Kept};
-ghost use Rattle.word_layout.specs.Layout.{letterSets, targets};
+ghost use Rattle.word_layout.specs.Layout.{letterSets, setTable, targets};
 ghost use Rattle.table_sets.specs.Stepping.{setOf};
 ghost use Rattle.live_table.specs.SetRows.{RowChain};
 ghost use Rattle.count_targets.specs.Counting.{Counting, Noted};
-ghost use Rattle.count_targets.specs.Targets.{EmptyNumber, NumberOf, Numbers, setTable};
+ghost use Rattle.count_targets.specs.Targets.{EmptyNumber, NumberOf, Numbers};
 use format::Counts;
+use live_building::set_table;
 use live_table::find_row;
 use live_table::left;
 use table_live::letters::step_letters;
@@ -17,22 +18,7 @@ use table_sets::set_of;
 use word_fields::put16;
 use word_layout::Block;
 use word_layout::LETTER_SETS;
-use word_layout::SET_INDEX;
-use word_layout::SET_ROWS;
-use word_layout::SetTable;
 use word_layout::TARGETS;
-
-// Where the table of live sets stands.
-// Cost: constant.
-pub fn set_table() -> SetTable
-    ensures { λ r. ⌜ r ≡ setTable ⌝ }
-{
-    SetTable {
-        rows: SET_ROWS,
-        sets: 1,
-        index: SET_INDEX,
-    }
-}
 
 // The number of the set of letter l, among the n of the table; `none` is that of the empty set, or more than n while it is not known.
 // Cost: a look into the table; constant where l is not met and the number of the empty set is known.

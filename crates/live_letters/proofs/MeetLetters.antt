@@ -139,7 +139,7 @@ module _ {tab : SetTable} {a i from : ℕ} {us vs : ℕ → List ℕ} {w₀ w : 
   low = omega (arith, k .more)
 
   pub turns-kept : Kept (tab .rows) (tableEnd tab) w₀ w'
-  turns-kept = kept-then (k .kept) (met-kept a tab w w' (us l) (vs l) n i l low hl ha (k .table) r x)
+  turns-kept = kept-then (k .kept) (met-kept tab w w' (us l) (vs l) n (i * 64 + l) r x)
 
   pub turns-more : (m : ℕ) (none : Bool) → r ≡ Total m → (T none → (us l ≡ 0 ∷ 0 ∷ 0 ∷ 0 ∷ []) × (vs l ≡ 0 ∷ 0 ∷ 0 ∷ 0 ∷ [])) → Turns tab a i from us vs w₀ w' m (dead || none) (l + 1)
   turns-more m none e f =

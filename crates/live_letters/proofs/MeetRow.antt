@@ -27,12 +27,12 @@ use Rattle.live_table.specs.declared.Grown.the-variants.{TooMany, Total}
 use Rattle.live_letters.specs.Meeting.{EmptyRow, Grows, Outcome, Table}
 
 -- ---- whatever the words stand for
-module _ (a : ℕ) (tab : SetTable) (w w' u v : List ℕ) (n i l : ℕ) (hi : i < n) (hl : l < a) (ha : a ≤ 64) (t : Table a tab w n) where
-  pub met-kept : (r : Grown) → Met tab w w' n u v (i * 64 + l) r → Kept (tab .rows) (tableEnd tab) w w'
-  met-kept TooMany f = subst (λ (x : List ℕ). Kept (tab .rows) (tableEnd tab) w x) (sym (f .same)) (kept-same (tab .rows) (tableEnd tab) w)
-  met-kept (Total m) (inl o) = subst (λ (x : List ℕ). Kept (tab .rows) (tableEnd tab) w x) (sym (o .same)) (kept-same (tab .rows) (tableEnd tab) w)
-  met-kept (Total m) (inr o) = o .added .kept
+pub met-kept : (tab : SetTable) (w w' u v : List ℕ) (n from : ℕ) (r : Grown) → Met tab w w' n u v from r → Kept (tab .rows) (tableEnd tab) w w'
+met-kept tab w w' u v n from TooMany f = subst (λ (x : List ℕ). Kept (tab .rows) (tableEnd tab) w x) (sym (f .same)) (kept-same (tab .rows) (tableEnd tab) w)
+met-kept tab w w' u v n from (Total m) (inl o) = subst (λ (x : List ℕ). Kept (tab .rows) (tableEnd tab) w x) (sym (o .same)) (kept-same (tab .rows) (tableEnd tab) w)
+met-kept tab w w' u v n from (Total m) (inr o) = o .added .kept
 
+module _ (a : ℕ) (tab : SetTable) (w w' u v : List ℕ) (n i l : ℕ) (hi : i < n) (hl : l < a) (ha : a ≤ 64) (t : Table a tab w n) where
   pub met-grows : (r : Grown) → Met tab w w' n u v (i * 64 + l) r → Grows a tab w' n r
   met-grows TooMany f = tt
   met-grows (Total m) (inl o) =

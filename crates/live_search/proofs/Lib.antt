@@ -1,3 +1,5 @@
 pub mod SearchFrames
 pub mod ExpandSet
 pub mod TwinRows
+pub mod MetSets
+pub mod Laws

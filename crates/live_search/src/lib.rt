@@ -47,7 +47,7 @@ fn expand_set(
 {
     let set = left(w, t, i);
     let met = step_letters(file, c, w, block, acc, set);
-    meet_letters(w, t, acc, c.letters, i, from, met)
+    meet_letters(w, t, acc, 0, c.letters, i, from, met)
 }
 
 // All live sets, from the one that stands first.

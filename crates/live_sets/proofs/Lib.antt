@@ -1,2 +1,5 @@
 pub mod SameRow
+pub mod MetAllLaws
+pub mod NextLetters
+pub mod MeetAll
 pub mod Laws

@@ -3,21 +3,16 @@
 // callers of its own alone, and so it is compiled with its places written in.
 ghost use mathlib.Core.Path.{_≡_};
 ghost use mathlib.Core.Logic.{_↔_};
-ghost use mathlib.Core.List.{List};
-ghost use mathlib.Core.Option.{some};
-ghost use Prim.Native.Nat.{_+_, _*_, _≤_, _<_};
+ghost use Prim.Native.Nat.{_+_, _-_, _*_, _≤_, _<_};
 ghost use lib.Dec.{T};
-ghost use lib.ListN.{getElem?};
-ghost use Rattle.automata.specs.Exploration.{addAll};
-ghost use Rattle.automata.specs.Search.{Entry, nextEntries};
-ghost use Rattle.automata.specs.Pairs.{Pair};
+ghost use Rattle.automata.specs.Lists.{countFrom};
 ghost use Rattle.word_fields.specs.Chains.{Found};
 ghost use Rattle.word_fields.specs.Frame.{Kept};
 ghost use Rattle.table_sets.specs.Stepping.{setOf};
 ghost use Rattle.word_layout.specs.Layout.{Tabled, tableEnd};
-ghost use Rattle.live_table.specs.Entries.{Side, along, alike, Holds};
 ghost use Rattle.live_table.specs.SetRows.{RowAt, RowChain, Met};
-ghost use Rattle.live_letters.specs.Meeting.{Table, Grows, EmptyRow, LetterRoom, LetterSets, Outcome};
+ghost use Rattle.live_letters.specs.Meeting.{LetterRoom};
+ghost use Rattle.live_sets.specs.MeetingAll.{MetAll, NextLetter};
 use live_letters::unmet;
 use live_table::Grown;
 use live_table::add_row;
@@ -72,8 +67,7 @@ fn meet_set(w: &mut [u64], t: SetTable, n: usize, u: [u64; 4], from: usize) -> G
     Grown::Total(n + 1)
 }
 
-// Letter l from row i, of the sets that a step has left for each letter, from `acc` on. Where `dead`, the row of the empty set is known, and a
-// letter that is not met leads to no other.
+// Letter l from row i, of the sets that a step has left for each letter, from `acc` on.
 // Cost: as many steps as rows have the key of the one that is met.
 fn meet_letter(
     w: &mut [u64],
@@ -83,44 +77,59 @@ fn meet_letter(
     l: usize,
     n: usize,
     met: u64,
-    dead: bool,
 ) -> Grown
     requires { ⌜ (i < 512) × ((l < 64) × (n ≤ 512)) ⌝ }
     requires { ⌜ (Tabled (now w) t × (t .sets ≡ 1)) × LetterRoom t (now w) acc acc met met ⌝ }
-    requires { ⌜ RowChain t (now w) n × (T dead → EmptyRow t (now w) n) ⌝ }
+    requires { ⌜ RowChain t (now w) n ⌝ }
     ensures { λ r. ⌜ Met t (now (w .entry)) (now (w .exit)) n (setOf (now (w .entry)) acc met l) (setOf (now (w .entry)) acc met l) (i * 64 + l) r ⌝ }
 {
-    if dead & unmet(met, met, l) {
-        return Grown::Total(n);
-    }
     let u = set_of(w, acc, met, l);
     meet_set(w, t, n, u, i * 64 + l)
 }
 
-// Every letter from row i, of the sets that a step has left for each letter.
+// The letter to be met behind l, of those before `end`. Where `dead`, the row of the empty set is known, and letters that are not met lead to
+// no other: they are passed over.
+// Cost: constant.
+fn next_letter(met: u64, l: usize, end: usize, dead: bool) -> usize
+    requires { ⌜ (l < end) × (end ≤ 64) ⌝ }
+    ensures { λ r. ⌜ NextLetter met dead l r ⌝ }
+{
+    let next = l + 1;
+    if !dead {
+        return next;
+    }
+    if next < end {
+        let rest = met >> next;
+        if rest != 0 {
+            return next + u64::trailing_zeros(rest) as usize;
+        }
+    }
+    end
+}
+
+// The letters from `low` on, up to `end`, from row i, of the sets that a step has left for each letter.
 // Cost: for each letter that is met, and one that is not, as `meet_letter`.
 pub fn meet_letters(
     w: &mut [u64],
     t: SetTable,
     acc: usize,
-    a: usize,
+    low: usize,
+    end: usize,
     i: usize,
     from: usize,
     met: u64,
 ) -> Grown
-    requires { ⌜ (a ≤ 64) × (i < from) ⌝ }
+    requires { ⌜ (end ≤ 64) × ((i < 512) × (from ≤ 512)) ⌝ }
     requires { ⌜ (Tabled (now w) t × (t .sets ≡ 1)) × LetterRoom t (now w) acc acc met met ⌝ }
-    requires { ⌜ Table a t (now w) from ⌝ }
+    requires { ⌜ RowChain t (now w) from ⌝ }
     ensures kept { λ _. ⌜ Kept (t .rows) (tableEnd t) (now (w .entry)) (now (w .exit)) ⌝ }
-    ensures grows { λ r. ⌜ Grows a t (now (w .exit)) from r ⌝ }
-    ensures meets { λ r. ⌜ ((x y : Side) (es : List (Entry Pair)) (e : Entry Pair) → LetterSets a x y (now (w .entry)) acc acc met met (e .state) → Holds t x y (now (w .entry)) from es → getElem? es i ≡ some e
-        → Outcome 512 t x y (now (w .exit)) (addAll alike es (nextEntries (along x y) a e)) r) ⌝ }
+    ensures meets { λ r. ⌜ MetAll t (setOf (now (w .entry)) acc met) i (countFrom low (end - low)) (now (w .entry)) from (now (w .exit)) r ⌝ }
 {
     let mut n = from;
     let mut dead = false;
-    let mut l: usize = 0;
-    while l < a {
-        match meet_letter(w, t, acc, i, l, n, met, dead) {
+    let mut l = low;
+    while l < end {
+        match meet_letter(w, t, acc, i, l, n, met) {
             Grown::TooMany => {
                 return Grown::TooMany;
             }
@@ -129,7 +138,7 @@ pub fn meet_letters(
             }
         }
         dead = dead | unmet(met, met, l);
-        l += 1;
+        l = next_letter(met, l, end, dead);
     }
     Grown::Total(n)
 }

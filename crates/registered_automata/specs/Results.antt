@@ -11,9 +11,12 @@ use Rattle.compare_promise.specs.declared.Comparison.{Comparison as ComparisonA
 use Rattle.compare_promise.specs.Comparing.{told as toldComparison}
 use Rattle.count_promise.specs.declared.WordCount.{WordCount as WordCountAnswer}
 use Rattle.count_promise.specs.WordCounts.{told as toldWordCount}
+use Rattle.ranges_promise.specs.declared.Ranged.{Ranged as RangedAnswer}
+use Rattle.ranges_promise.specs.RangeAnswers.{told as toldRanged}
 use Rattle.registered_automata.specs.declared.results.Comparison.{Comparison}
 use Rattle.registered_automata.specs.declared.results.Reading.{Reading}
 use Rattle.registered_automata.specs.declared.results.Membership.{Membership}
+use Rattle.registered_automata.specs.declared.results.Ranged.{Ranged}
 use Rattle.registered_automata.specs.declared.results.WordCount.{WordCount}
 use Rattle.registered_automata.specs.declared.results.Written.{Written}
 
@@ -47,3 +50,13 @@ comparisonFields r = let t = toldComparison r in record { pairs = t .pairs; leng
 -- of counting
 abbrev pub wordCountFields : WordCountAnswer → WordCount
 wordCountFields r = let t = toldWordCount r in record { accepted = t .accepted; rejected = t .rejected; number = t .number; automaton = t .at-fault }
+
+-- of a word with ranges; 1 stands for always, 2 for sometimes, 3 for never
+abbrev pub rangedFields : RangedAnswer → Ranged
+rangedFields r =
+    let t = toldRanged r in
+    record {
+      number = t .number;
+      automaton = t .at-fault;
+      answer = cond (t .always) 1 (cond (t .sometimes) 2 (cond (t .never) 3 0));
+    }

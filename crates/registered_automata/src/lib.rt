@@ -13,14 +13,17 @@ ghost use Rattle.join_parts.specs.Joining.{closedOf, joinOf, joinedOf};
 ghost use Rattle.unfold.specs.Unfolding.{unfoldingOf};
 ghost use Rattle.compare_promise.specs.Comparing.{bufferOf, comparisonOf, shownWord};
 ghost use Rattle.count_promise.specs.WordCounts.{wordCountOf};
-ghost use Rattle.registered_automata.specs.Results.{readingFields, membershipFields, writtenFields, comparisonFields, wordCountFields};
+ghost use Rattle.ranges_promise.specs.RangeAnswers.{rangedOf};
+ghost use Rattle.registered_automata.specs.Results.{readingFields, membershipFields, writtenFields, comparisonFields, wordCountFields, rangedFields};
 use results::Comparison;
 use results::Membership;
+use results::Ranged;
 use results::Reading;
 use results::WordCount;
 use results::Written;
 use results::as_comparison;
 use results::as_membership;
+use results::as_ranged;
 use results::as_reading;
 use results::as_word_count;
 use results::as_written;
@@ -112,4 +115,14 @@ pub extern "C" fn ra_count_words(file: &[u8], size: u64, work: &mut [u64]) -> Wo
     ensures answer { λ r. ⌜ r ≡ wordCountFields (wordCountOf (now (file .entry)) size (length (now (work .entry)))) ⌝ }
 {
     as_word_count(count::count_words(file, size, work))
+}
+
+// Of a word of which each letter is known only to lie in a range: does the automaton of the file accept every filling, some, or none?
+// Refusals and cost: `ranges::accepts_ranges`.
+#[no_mangle]
+pub extern "C" fn ra_accepts_ranges(file: &[u8], places: &[u8], work: &mut [u64]) -> Ranged
+    ensures same { λ _. ⌜ length (now (work .exit)) ≡ length (now (work .entry)) ⌝ }
+    ensures answer { λ r. ⌜ r ≡ rangedFields (rangedOf (now (file .entry)) (now (places .entry)) (length (now (work .entry)))) ⌝ }
+{
+    as_ranged(ranges::accepts_ranges(file, places, work))
 }

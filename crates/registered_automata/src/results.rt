@@ -1,6 +1,6 @@
 // The answers as other languages take them: structs of numbers with the layout of C, and the struct that tells each answer.
 ghost use mathlib.Core.Path.{_≡_};
-ghost use Rattle.registered_automata.specs.Results.{readingFields, membershipFields, writtenFields, comparisonFields, wordCountFields};
+ghost use Rattle.registered_automata.specs.Results.{readingFields, membershipFields, writtenFields, comparisonFields, wordCountFields, rangedFields};
 
 // The counts of a valid file, with number 0; or the number of the fault, its place in bytes from the file's start, the automaton at
 // fault, which is 1, and counts of 0.
@@ -53,6 +53,15 @@ pub struct WordCount {
     pub rejected: u64,
     pub number: u8,
     pub automaton: u8,
+}
+
+// 1 where every filling is accepted, 2 where some are and some are not, 3 where none is, with number 0; or the number of the refusal and
+// the automaton at fault, and 0 elsewhere.
+#[repr(C)]
+pub struct Ranged {
+    pub number: u8,
+    pub automaton: u8,
+    pub answer: u8,
 }
 
 // The struct of what reading answers. Cost: constant.
@@ -176,6 +185,34 @@ pub fn as_word_count(r: count_promise::WordCount) -> WordCount
             rejected: 0,
             number,
             automaton,
+        },
+    }
+}
+
+// The struct of what is answered of a word with ranges. Cost: constant.
+pub fn as_ranged(r: ranges_promise::Ranged) -> Ranged
+    ensures { λ x. ⌜ x ≡ rangedFields r ⌝ }
+{
+    match r {
+        ranges_promise::Ranged::Always => Ranged {
+            number: 0,
+            automaton: 0,
+            answer: 1,
+        },
+        ranges_promise::Ranged::Sometimes => Ranged {
+            number: 0,
+            automaton: 0,
+            answer: 2,
+        },
+        ranges_promise::Ranged::Never => Ranged {
+            number: 0,
+            automaton: 0,
+            answer: 3,
+        },
+        ranges_promise::Ranged::Refused { number, automaton } => Ranged {
+            number,
+            automaton,
+            answer: 0,
         },
     }
 }

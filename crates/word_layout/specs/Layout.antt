@@ -124,9 +124,9 @@ letterHeads = letterNexts + 512
 abbrev pub letteredEnd : ℕ
 letteredEnd = letterHeads + 64
 
--- ---- a call on one automaton whose live sets are counted: what is counted stands below the building's tables, then the block, then the
+-- ---- a call on one automaton whose live sets are met: what is made of them stands below the building's tables, then the block, then the
 -- table of live sets, then the sets of the letters
--- how many words of one length lead from each live set to one that is accepted, 512 words
+-- where words are counted: how many words of one length lead from each live set to one that is accepted, 512 words
 abbrev pub counts : ℕ
 counts = 0
 
@@ -153,3 +153,12 @@ setIndex = 7232
 -- the sets of the letters that a step leaves, 64 rows
 abbrev pub letterSets : ℕ
 letterSets = 7616
+
+-- the table of live sets, one set to a row
+abbrev pub setTable : SetTable
+setTable = record { rows = setRows; sets = 1; index = setIndex }
+
+-- where a word has ranges: the live sets before a place, 512 rows of four words, up to the building's tables. They are walked in their order
+-- and not looked up, so the index is that of the sets behind the place
+abbrev pub beforeTable : SetTable
+beforeTable = record { rows = 0; sets = 1; index = setIndex }

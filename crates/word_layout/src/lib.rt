@@ -58,12 +58,15 @@ pub const LETTER_NEXTS: usize = 7104;
 
 pub const LETTER_HEADS: usize = 7616;
 
-// The places of a call on one automaton whose live sets are counted.
+// The places of a call on one automaton whose live sets are met: where words are counted, where the sets before a place of a word with
+// ranges stand, and what both use.
 pub const COUNTS: usize = 0;
 
 pub const NEXT_COUNTS: usize = 512;
 
 pub const TARGETS: usize = 1024;
+
+pub const BEFORE_ROWS: usize = 0;
 
 pub const ONLY_BLOCK: usize = 3584;
 

@@ -5,5 +5,5 @@ pub use Rattle.word_sets.proofs.Views.{set-ext}
 -- a set as the list of tests that Live calls a set
 pub use Rattle.word_sets.proofs.Views.{count-within, in-view, length-view, meets-view, view-is}
 pub use Rattle.word_sets.proofs.Tables.{count-none, table-ext}
--- one digit of a word, tested and set by the mask `1 << k`
-pub use Rattle.word_sets.proofs.Bits.{bit-or, bit-with, bit-zero, has-bit}
+-- one digit of a word, tested and set by the mask `1 << k`; the digits of a shifted word, and its lowest digit 1
+pub use Rattle.word_sets.proofs.Bits.{bit-or, bit-shift, bit-with, bit-zero, has-bit, trailing}

@@ -1,7 +1,8 @@
 //! The requirements (documents 01 and 02) written down plainly in Rust, with vectors and maps and no care for memory or speed.
 //! It shares no code and no table layout with the engine: what both answer alike was reached in two ways.
 
-use std::collections::{BTreeSet, HashMap};
+use std::collections::{BTreeSet, HashMap, HashSet};
+use std::ops::RangeInclusive;
 
 /// The numbers of a file's faults (document 01, and document 02's change 5).
 pub const FAULTS: [u8; 12] = [1, 2, 3, 4, 5, 6, 7, 8, 9, 32, 33, 34];
@@ -610,6 +611,114 @@ pub fn count_each_word(file: &[u8], length: u64) -> (u64, u64) {
     }
     let x = read(file).expect("a valid file");
     each(&x, &live_at_start(&x), length)
+}
+
+// ---- words with ranges of letters
+
+/// How many of the fillings of a word with ranges are accepted: all, some but not all, or none.
+#[derive(Clone, Copy, Debug, PartialEq, Eq)]
+pub enum Ranged {
+    Always,
+    Sometimes,
+    Never,
+}
+
+/// The answer, by whether each of some words or live sets is accepted; there is one at least.
+fn judged(accepted: &[bool]) -> Ranged {
+    match (accepted.contains(&true), accepted.contains(&false)) {
+        (true, false) => Ranged::Always,
+        (true, true) => Ranged::Sometimes,
+        (false, _) => Ranged::Never,
+    }
+}
+
+/// The letter numbers of each place, which has two bytes, low and high; none where a place is no range of so many letters, or a byte is
+/// left over.
+fn ranges_of(places: &[u8], letters: usize) -> Option<Vec<RangeInclusive<usize>>> {
+    let range = |place: &[u8]| match place {
+        &[low, high] if low <= high && (high as usize) < letters => {
+            Some(low as usize..=high as usize)
+        }
+        _ => None,
+    };
+    places.chunks(2).map(range).collect()
+}
+
+/// All fillings of the places, where they are few: 4,096 at most, and the fewer the more arcs there are.
+fn few_fillings(ranges: &[RangeInclusive<usize>], arcs: usize) -> Option<Vec<Vec<usize>>> {
+    let mut fillings: Vec<Vec<usize>> = vec![Vec::new()];
+    for range in ranges {
+        let mut longer = Vec::new();
+        for front in &fillings {
+            longer.extend(range.clone().map(|letter| [front, &[letter][..]].concat()));
+        }
+        fillings = longer;
+        if fillings.len() > 4_096 || fillings.len() * arcs > 1 << 20 {
+            return None;
+        }
+    }
+    Some(fillings)
+}
+
+/// Does a run spell these letters and end in a final state? What is searched are letters read and configurations, with no live set.
+fn has_accepting_run(x: &Automaton, word: &[usize]) -> bool {
+    let mut leaving = vec![Vec::new(); x.finals.len()];
+    for arc in &x.arcs {
+        leaving[arc.from].push(arc);
+    }
+    let begin = (0, initial(x));
+    let mut met = HashSet::from([begin.clone()]);
+    let mut waiting = vec![begin];
+    while let Some((read, here)) = waiting.pop() {
+        if read == word.len() && x.finals[here.0] {
+            return true;
+        }
+        for arc in &leaving[here.0] {
+            let next = match arc.letter {
+                None => read,
+                letter if letter == word.get(read).copied() => read + 1,
+                _ => continue,
+            };
+            if let Some(there) = pass(arc, &here) {
+                if met.insert((next, there.clone())) {
+                    waiting.push((next, there));
+                }
+            }
+        }
+    }
+    false
+}
+
+/// Whether every filling is accepted, some, or none: by the live sets of all fillings of the places up to each. Where fillings are few, each
+/// is judged by itself too, by its runs, and the answer must be the same.
+pub fn accepts_ranges(file: &[u8], places: &[u8], words_lent: usize) -> Result<Ranged, Refusal> {
+    if words_lent < 8192 {
+        return refuse(24, 0);
+    }
+    let x = read_one(file, 1)?;
+    let Some(ranges) = ranges_of(places, x.letters.len()) else {
+        return refuse(35, 0);
+    };
+    if explore(&x).is_none() {
+        return refuse(21, 1);
+    }
+    let mut sets = HashSet::from([live_at_start(&x)]);
+    for range in &ranges {
+        let mut behind = HashSet::new();
+        for set in &sets {
+            behind.extend(range.clone().map(|letter| live_after(&x, set, letter)));
+        }
+        sets = behind;
+        if sets.len() > 512 {
+            return refuse(23, 0);
+        }
+    }
+    let by_sets: Vec<bool> = sets.iter().map(|set| is_accepted(&x, set)).collect();
+    if let Some(fillings) = few_fillings(&ranges, x.arcs.len()) {
+        let one_by_one: Vec<bool> = fillings.iter().map(|w| has_accepting_run(&x, w)).collect();
+        assert_eq!(judged(&by_sets), judged(&one_by_one));
+    }
+    Ok(judged(&by_sets))
 }
 
 // ---- joins

@@ -1,4 +1,4 @@
-//! Seeded random files, words and couples: small and large, valid and damaged, at the limits and one beyond.
+//! Seeded random files, words, ranges and couples: small and large, valid and damaged, at the limits and one beyond.
 
 use super::plain::{read, write, Arc, Automaton, Operation};
 
@@ -418,5 +418,81 @@ pub fn length(r: &mut Random) -> u64 {
         1 => r.below(65) as u64,
         2 => r.of(&[66, 1 << 32, u64::MAX]),
         _ => r.below(7) as u64,
+    }
+}
+
+/// Is the letter at this place from the end the first one? Over the first two letters; any other leaves nothing live. The live set of a word
+/// tells which of its last letters are the first one, as many as that, so there are two to that power.
+pub fn letter_from_the_end(place: usize, letters: &[u8]) -> Automaton {
+    let arc = |from, letter, to| Arc {
+        from,
+        letter: Some(letter),
+        to,
+        operations: vec![Operation {
+            writes: false,
+            register: 0,
+            symbol: 0,
+        }],
+    };
+    let mut arcs = vec![arc(0, 0, 0), arc(0, 0, 1), arc(0, 1, 0)];
+    for from in 1..place {
+        arcs.extend([arc(from, 0, from + 1), arc(from, 1, from + 1)]);
+    }
+    Automaton {
+        letters: letters.to_vec(),
+        registers: 1,
+        symbols: 1,
+        finals: (0..=place).map(|state| state == place).collect(),
+        arcs,
+    }
+}
+
+/// A file by which words with ranges are to be judged: now and then one with many live sets.
+pub fn ranged(r: &mut Random, letters: &[u8]) -> Vec<u8> {
+    if letters.len() > 1 && r.one_in(6) {
+        return write(&letter_from_the_end(7 + r.below(5), letters));
+    }
+    counted(r, letters)
+}
+
+/// The places of a word with ranges of so many letters, two bytes each: letters alone, ranges among them, or ranges of all letters. Now and
+/// then one is no range, or a byte is left over.
+pub fn places(r: &mut Random, letters: usize) -> Vec<u8> {
+    let n = r.of(&[0, 1, 2, 3, 4, 6, 9, 12, 40]);
+    let ranges = r.of(&[1, 1, 2, 8]);
+    let all = r.of(&[1, 3]);
+    let mut places = Vec::new();
+    for _ in 0..if letters == 0 { 0 } else { n } {
+        let mut low = r.below(letters);
+        let mut high = low;
+        if r.one_in(ranges) {
+            high += r.below(letters - low);
+            if r.one_in(all) {
+                (low, high) = (0, letters - 1);
+            }
+        }
+        places.extend([low as u8, high as u8]);
+    }
+    if r.one_in(8) {
+        spoil_places(r, &mut places, letters as u8);
+    }
+    places
+}
+
+/// Leaves a byte over, or makes one of the places none: its high is no letter, just beyond them or far from it, or its low is just above its
+/// high.
+fn spoil_places(r: &mut Random, places: &mut Vec<u8>, letters: u8) {
+    if r.one_in(3) {
+        places.push(r.below(256) as u8);
+        return;
+    }
+    if places.is_empty() {
+        places.extend([0, 0]);
+    }
+    let at = 2 * r.below(places.len() / 2);
+    if r.one_in(2) {
+        places[at + 1] = r.of(&[letters, 255]);
+    } else {
+        places[at] = places[at + 1] + 1;
     }
 }

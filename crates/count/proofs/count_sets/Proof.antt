@@ -10,12 +10,11 @@ use Rattle.automata.specs.Unfolding.{plainArcs}
 use Rattle.automata.proofs.Laws.{both-many}
 use Rattle.format.specs.Decoding.{automatonOf}
 use Rattle.word_sets.specs.Sets.{view}
-use Rattle.word_layout.specs.Layout.{letterSets}
+use Rattle.word_layout.specs.Layout.{letterSets, setTable}
 use Rattle.word_layout.specs.declared.SetTable.{SetTable}
 use Rattle.live_search.specs.Exploring.{Searchable}
 use Rattle.table.proofs.Laws.{letters-are, stands-numbered, stands-outgoing, stands-tells}
 use Rattle.count_targets.specs.Counting.{Counting}
-use Rattle.count_targets.specs.Targets.{setTable}
 use Rattle.count.proofs.Refusals.{sets-beyond, sets-counted}
 use Rattle.count.proofs.StartCounting.{Explored, counting, searchable, sets-few, sets-over}
 use Rattle.count.proofs.count_sets.Statement.{statement}

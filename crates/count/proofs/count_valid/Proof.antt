@@ -11,7 +11,7 @@ use Rattle.table.specs.Standing.{Stands}
 use Rattle.table.proofs.Laws.{letters-are, stands-few, stands-many}
 use Rattle.count_sums.specs.Sums.{TotalOf}
 use Rattle.count_sums.specs.declared.Total.{Total}
-use Rattle.count.specs.Answers.{PrunedBy}
+use Rattle.live_building.specs.Building.{PrunedBy}
 use Rattle.count.proofs.Refusals.{limits-beyond, limits-long, limits-over, limits-passed}
 use Rattle.count.proofs.count_valid.Statement.{statement}
 use Rattle.count.proofs.count_valid.Tie as tie

@@ -5,7 +5,7 @@ use mathlib.Core.Path.{_∙_, ap}
 use Prim.Native.Nat.{_-_}
 use Rattle.word_layout.specs.declared.SetTable.{SetTable}
 use Rattle.live_table.specs.SetRows.{leftRow}
-use Rattle.count_targets.proofs.Laws.{tabled}
+use Rattle.live_building.proofs.Laws.{tabled}
 use Rattle.count_rounds.proofs.EndLaws.{Ending, ending-more, ending-start}
 use Rattle.count_rounds.proofs.count_ends.Statement.{statement}
 use Rattle.count_rounds.proofs.count_ends.Tie as tie

@@ -9,14 +9,13 @@ use Rattle.format.specs.Decoding.{automatonOf}
 use Rattle.live_table.specs.SetRows.{leftRow}
 use Rattle.word_sets.specs.Sets.{view}
 use Rattle.word_fields.proofs.Laws.{field-same, kept-then, kept-wider}
-use Rattle.word_layout.specs.Layout.{targets}
+use Rattle.word_layout.specs.Layout.{setTable, targets}
 use Rattle.word_layout.specs.declared.SetTable.{SetTable}
 use Rattle.table.proofs.Laws.{stands-outgoing, stands-steps}
+use Rattle.live_building.proofs.Laws.{tabled}
 use Rattle.count_targets.specs.Counting.{Counting}
-use Rattle.count_targets.specs.Targets.{setTable}
 use Rattle.count_targets.proofs.CountingLaws.{counting-few, counting-kept, counting-letters-few, counting-room, numbered-view}
 use Rattle.count_targets.proofs.NotingLaws.{numbers-noted}
-use Rattle.count_targets.proofs.Numbering.{tabled}
 use Rattle.count_targets.proofs.note_targets.Statement.{statement}
 use Rattle.count_targets.proofs.note_targets.Tie as tie
 

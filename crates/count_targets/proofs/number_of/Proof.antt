@@ -5,13 +5,14 @@ use mathlib.Core.Path.{_≡_, subst, sym}
 use mathlib.Core.List.{List, [], _∷_}
 use Prim.Native.Nat.{_≤_, ℕ}
 use Rattle.word_fields.specs.Chains.{Found}
-use Rattle.word_layout.specs.Layout.{Tabled, letterSets}
+use Rattle.word_layout.specs.Layout.{Tabled, letterSets, setTable}
 use Rattle.word_layout.specs.declared.SetTable.{SetTable}
 use Rattle.word_sets.proofs.Laws.{Four, four}
 use Rattle.table_sets.specs.Stepping.{setOf}
 use Rattle.live_table.specs.SetRows.{RowAt, RowChain}
-use Rattle.count_targets.specs.Targets.{NumberOf, setTable}
-use Rattle.count_targets.proofs.Numbering.{empty-four, found-number, tabled, unmet-empty}
+use Rattle.live_building.proofs.Laws.{tabled}
+use Rattle.count_targets.specs.Targets.{NumberOf}
+use Rattle.count_targets.proofs.Numbering.{empty-four, found-number, unmet-empty}
 use Rattle.count_targets.proofs.number_of.Statement.{statement}
 use Rattle.count_targets.proofs.number_of.Tie as tie
 

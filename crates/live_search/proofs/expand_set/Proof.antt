@@ -7,7 +7,7 @@ use Rattle.word_fields.proofs.Laws.{kept-then, kept-wider}
 use Rattle.table_sets.specs.Stepping.{setOf}
 use Rattle.live_table.proofs.Laws.{tabled-kept}
 use Rattle.live_letters.proofs.Laws.{holds-kept, table-kept}
-use Rattle.live_search.proofs.ExpandSet.{letters-behind}
+use Rattle.live_search.proofs.ExpandSet.{all-met, letters-behind}
 use Rattle.live_search.proofs.expand_set.Statement.{statement}
 use Rattle.live_search.proofs.expand_set.Tie as tie
 
@@ -25,13 +25,13 @@ meet-letters-requires c κs =
     let s = m .before .before .before .before .before .before in
     let p = s .pre .0 in
     let k = m .step-letters .ensures .0 in (
-      (p .steps .walkable .letters, s .pre .1 .0),
+      (p .steps .walkable .letters, (omega (arith, s .pre .1 .0, s .pre .1 .1 .few), s .pre .1 .1 .few)),
       (
         (
           (tabled-kept k (p .tabled), p .one),
           record { behind₁ = p .behind; behind₂ = p .behind; long₁ = omega (arith, k .long, p .steps .room .rows); long₂ = omega (arith, k .long, p .steps .room .rows); one = λ _. (refl, refl) },
         ),
-        table-kept (p .tabled) k (inr (p .behind)) (s .pre .1 .1),
+        table-kept (p .tabled) k (inr (p .behind)) (s .pre .1 .1) .chain,
       ),
     )
 
@@ -44,12 +44,14 @@ returns c =
     let a = s .args in
     let p = s .pre .0 in
     let k = q .step-letters .ensures .0 in
-    let f = m .meet-letters .ensures in (
+    let sets = setOf (q .step-letters .last .1 .1 .0) (a .acc) (q .step-letters .result) in
+    let f = m .meet-letters .ensures in
+    let g = all-met (p .steps .walkable .letters) _ _ _ _ _ _ _ (f .1) (s .pre .1 .0) (table-kept (p .tabled) k (inr (p .behind)) (s .pre .1 .1)) in (
       kept-then (kept-wider (omega (arith, p .tabled .before, p .behind)) (omega arith) k) (kept-wider (omega arith) (omega (arith, p .behind)) (f .0)),
       (
-        f .1 .0,
-        λ u v es e b h z. f .1 .1 u v es e
-            (letters-behind (setOf (q .step-letters .last .1 .1 .0) (a .acc) (q .step-letters .result)) (p .one) (a .i) (a .from) (x .left .ensures) (q .step-letters .ensures .1) u v es e b h z)
+        g .0,
+        λ u v es e b h z. g .1 u v es e
+            (letters-behind sets (p .one) (a .i) (a .from) (x .left .ensures) (q .step-letters .ensures .1) u v es e b h z)
             (holds-kept (p .tabled) k (inr (p .behind)) (s .pre .1 .1 .few) h) z,
       ),
     )

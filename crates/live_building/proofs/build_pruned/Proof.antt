@@ -1,4 +1,4 @@
--- `count::building::build_pruned` meets its contract: the automaton stands in its block, and the list that is left tells as much.
+-- `live_building::build_pruned` meets its contract: the automaton stands in its block, and the list that is left tells as much.
 use borrow.Author.Needs.{needs}
 use mathlib.Core.Path.{_∙_, refl, subst, sym}
 use Prim.Native.Nat.{ℕ}
@@ -11,8 +11,8 @@ use Rattle.table_configurations.specs.declared.Explored.{Explored}
 use Rattle.table_sets.specs.Stepping.{Tells}
 use Rattle.table.specs.Standing.{Stands, StandsBy}
 use Rattle.table.proofs.Laws.{explored-many, letters-few, stands-tells, stands-told}
-use Rattle.count.proofs.building.build_pruned.Statement.{statement}
-use Rattle.count.proofs.building.build_pruned.Tie as tie
+use Rattle.live_building.proofs.build_pruned.Statement.{statement}
+use Rattle.live_building.proofs.build_pruned.Tie as tie
 
 -- building's call
 abbrev start : tie.After-build → tie.Start

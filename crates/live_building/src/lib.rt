@@ -1,11 +1,12 @@
-// Building: the automaton whose words are counted, built in its block; where its plain arcs are listed, those that add nothing to a step are
-// dropped.
+// live_building: the only automaton of a call, built for its live sets to be met: its block right behind the building's tables, and behind it
+// the place of the table. Where its plain arcs are listed, those that add nothing to a step are dropped.
 ghost use mathlib.Core.Path.{_≡_};
 ghost use Prim.Native.Nat.{_≤_};
 ghost use lib.ListN.{length};
 ghost use Rattle.file_fields.specs.declared.Reading.the-variants.{Valid};
 ghost use Rattle.format.specs.Reading.{readingOf};
-ghost use Rattle.count.specs.Answers.{PrunedBy};
+ghost use Rattle.word_layout.specs.Layout.{setTable};
+ghost use Rattle.live_building.specs.Building.{PrunedBy};
 use format::Counts;
 use table::block::build;
 use table_explore::Explored;
@@ -13,9 +14,24 @@ use table_prune::prune;
 use word_layout::Block;
 use word_layout::COUNTS;
 use word_layout::ONLY_BLOCK;
+use word_layout::SET_INDEX;
+use word_layout::SET_ROWS;
+use word_layout::SetTable;
 
-// Builds the automaton of a valid file with the counts c, or answers that it has more than 256 configurations. The place of the counts is
-// free until words are counted, and serves the pruning.
+// Where the table of live sets stands.
+// Cost: constant.
+pub fn set_table() -> SetTable
+    ensures { λ r. ⌜ r ≡ setTable ⌝ }
+{
+    SetTable {
+        rows: SET_ROWS,
+        sets: 1,
+        index: SET_INDEX,
+    }
+}
+
+// Builds the automaton of a valid file with the counts c, or answers that it has more than 256 configurations. The words below the building's
+// tables are free until then, and serve the pruning.
 // Cost: what building and pruning take.
 pub fn build_pruned(file: &[u8], c: Counts, w: &mut [u64]) -> Explored
     requires { ⌜ (readingOf (now file) ≡ Valid c) × (8192 ≤ length (now w)) ⌝ }

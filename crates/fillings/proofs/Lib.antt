@@ -1,0 +1,4 @@
+pub mod FillingLaws
+pub mod FilledSets
+pub mod PlaceTurns
+pub mod Laws

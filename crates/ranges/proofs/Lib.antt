@@ -1,0 +1,4 @@
+pub mod RangeTests
+pub mod Refusals
+pub mod SetTests
+pub mod WalkAnswers

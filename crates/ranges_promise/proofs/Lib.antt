@@ -1,0 +1,4 @@
+pub mod Refusals
+pub mod Promise
+pub mod Settled
+pub mod Examples

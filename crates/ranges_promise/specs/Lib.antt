@@ -1,0 +1,2 @@
+pub mod RangeAnswers
+pub mod Promised

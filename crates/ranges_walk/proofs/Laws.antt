@@ -1,0 +1,3 @@
+-- Laws: the laws of this crate that crates above cite. A law that is not named here may change.
+-- words written below the building's tables or behind the block leave the automaton; a live set in row 0 is the only one before the first place
+pub use Rattle.ranges_walk.proofs.WalkFrames.{ready-kept, start-sets}

@@ -1,0 +1,6 @@
+pub mod WalkFrames
+pub mod CopyRows
+pub mod ExpandOne
+pub mod ExpandSets
+pub mod PlacesWalk
+pub mod Laws
