@@ -93,8 +93,8 @@ enum ra_refusal {
     RA_TOO_MANY_CONFIGURATIONS = 21,
     /* more than 2048 plain arcs: passing arcs, counted at each configuration */
     RA_TOO_MANY_PLAIN_ARCS = 22,
-    /* words lead to more than 512 live sets, or to more than 512 pairs of them where two automata are compared; of a word with ranges,
-     * its fillings up to one of its places do
+    /* words lead to more than 512 live sets, or to more than 512 pairs of them where two automata are compared, or to more than 512
+     * behind one place of a word with ranges
      */
     RA_TOO_MANY_LIVE_SETS = 23,
     /* less working memory than 8192 words, or less room for a word than 512 bytes */

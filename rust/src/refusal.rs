@@ -110,7 +110,7 @@ impl Reason {
             Reason::JoinedBeyondALimit => "the letters of both files are more than 64, or the result would be beyond a limit: 256 states, 8 registers, 2048 arcs, 8 operations on an arc",
             Reason::TooManyConfigurations => "more than 256 configurations can be reached",
             Reason::TooManyPlainArcs => "more than 2048 plain arcs: passing arcs, counted at each configuration",
-            Reason::TooManyLiveSets => "words lead to more than 512 live sets, or to more than 512 pairs of them where two automata are compared",
+            Reason::TooManyLiveSets => "words lead to more than 512 live sets, or to more than 512 pairs of them where two automata are compared, or to more than 512 behind one place of a word with ranges",
             Reason::TooLittleMemoryLent => "less working memory than 8192 words, or less room for a word than 512 bytes",
             Reason::OutputTooShort => "less room than the result has bytes",
             Reason::LengthTooLarge => "the length is above 64, or more than 18446744073709551615 words have it",

@@ -20,7 +20,7 @@ fn say_limit(file: i32, number: u8) -> bool {
         ),
         23 => say(
             file,
-            b"words lead to more than 512 live sets, or to more than 512 pairs of them where two automata are compared",
+            b"words lead to more than 512 live sets, or to more than 512 pairs of them where two automata are compared, or to more than 512 behind one place of a word with ranges",
         ),
         24 => say(
             file,
@@ -30,6 +30,10 @@ fn say_limit(file: i32, number: u8) -> bool {
         31 => say(
             file,
             b"the length is above 64, or more than 18446744073709551615 words have it",
+        ),
+        35 => say(
+            file,
+            b"a byte is left over, or a range has its low above its high or its high not below the number of letters",
         ),
         _ => say(file, b"no such refusal"),
     }

@@ -3,56 +3,12 @@
 // An empty line is the empty word. A file that is refused is told once, on standard error, and no word is read.
 use book_console::files::Loaded;
 use book_console::files::load;
+use book_console::lines::Line;
+use book_console::lines::read_line;
 use book_console::refusals::tell_refusal;
 use book_console::words::say;
 use book_console::words::say_number;
 use table::Membership;
-
-// What a line of the input was: a word of so many bytes, longer than there is room for, or the input's end.
-enum Line {
-    Word(usize),
-    Long,
-    End,
-}
-
-// The next byte of the input.
-enum Next {
-    Byte(u8),
-    End,
-}
-
-// The next byte of standard input, or that there is none. Cost: one read of one byte.
-fn next_byte() -> Next {
-    let mut one = [0u8; 1];
-    if io::read_full(0, &mut one) == 0 {
-        return Next::End;
-    }
-    Next::Byte(one[0])
-}
-
-// What the end of the input makes of the n bytes before it: a last line needs no newline. Cost: constant.
-fn last_line(n: usize) -> Line {
-    if n == 0 {
-        return Line::End;
-    }
-    Line::Word(n)
-}
-
-// Reads one line to the front of `line`, without its newline. Cost: one read for each byte.
-fn read_line(line: &mut [u8]) -> Line {
-    let mut n: usize = 0;
-    while n < line.len() {
-        let Next::Byte(b) = next_byte() else {
-            return last_line(n);
-        };
-        if b == b'\n' {
-            return Line::Word(n);
-        }
-        line[n] = b;
-        n += 1;
-    }
-    Line::Long
-}
 
 // Writes the line of an answer, and answers whether that passed. Cost: the line.
 fn say_line(answer: &[u8], live: u64, word: &[u8]) -> bool {
@@ -76,24 +32,13 @@ fn tell(answer: Membership, file: &[u8], word: &[u8]) -> bool {
     }
 }
 
-// Judges the word of the first n bytes of a line. Cost: that of `table::accepts` and of `tell`.
-fn judge(file: &[u8], line: &[u8], n: usize, work: &mut [u64]) -> bool {
-    if line.len() < n {
-        return false;
-    }
-    tell(table::accepts(file, &line[0..n], work), file, &line[0..n])
-}
-
-// One word; false ends the run. Cost: one read for each byte of the line, and that of `judge`.
+// One word; false ends the run. Cost: one read for each byte of the line, and that of `table::accepts` and of `tell`.
 fn turn(file: &[u8], line: &mut [u8], work: &mut [u64]) -> bool {
-    match read_line(line) {
-        Line::Word(n) => judge(file, line, n, work),
-        Line::Long => {
-            say(2, b"a word is too long: 65535 bytes at most\n");
-            false
-        }
-        Line::End => false,
-    }
+    let Line::Word(n) = read_line(line) else {
+        return false;
+    };
+    let word = &line[0..n];
+    tell(table::accepts(file, word, work), file, word)
 }
 
 // Whether no word would be refused. The file alone decides that, so the empty word is asked. Cost: that of `table::accepts`, and where
@@ -126,7 +71,7 @@ fn main() {
         return;
     }
     let mut file = [0u8; 41293];
-    let mut line = [0u8; 65536];
+    let mut line = [0u8; 65535];
     let mut work = [0u64; 8192];
     let Loaded::Bytes(n) = load(1, &mut file) else {
         return;

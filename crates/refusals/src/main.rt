@@ -8,7 +8,7 @@ fn is_refusal(number: u8) -> bool {
     (number >= 1 && number <= 9)
         || number == 11
         || (number >= 21 && number <= 25)
-        || (number >= 31 && number <= 34)
+        || (number >= 31 && number <= 35)
 }
 
 // The line of a number that means a refusal; of another nothing. Cost: the line.
@@ -24,7 +24,7 @@ fn say_refusal(number: u8) {
 // Every refusal, one a line. Cost: the lines.
 fn main() {
     let mut number: u8 = 0;
-    while number < 35 {
+    while number < 36 {
         say_refusal(number);
         number += 1;
     }
