@@ -10,7 +10,7 @@ pub use Rattle.automata.proofs.PerformingLaws.{successors-iff}
 -- the walk numbers exactly what can be reached, each once, or shows more than its limit
 pub use Rattle.automata.proofs.ExplorationLaws.{add-cases, addAll-at, addAll-cases, addAll-distinct, addAll-has, addAll-length, distinct-apart, has-iff, known-distinct, known-ended, known-long, known-sound}
 -- how many things have a property: more than n is not n of them, and the same of a property that says the same
-pub use Rattle.automata.proofs.CountingLaws.{counts-same, more-same, not-more}
+pub use Rattle.automata.proofs.CountingLaws.{counts-same, not-more}
 -- the number of an element in a list: what it is of a member, of a new one, and that a number once given stays
 pub use Rattle.automata.proofs.NumberLaws.{add-new, add-old, addAll-prefix, known-prefix, number-add, number-append, number-at, one-number}
 -- exploring is the same on images, where f tells apart what the tests tell apart, on elements that have a property P.

@@ -1,11 +1,11 @@
 -- Answers: what is left of counting behind the refusals that are ruled out already.
-use mathlib.Core.List.{List, [], _∷_}
+use mathlib.Core.List.{[], _∷_}
 use Prim.Native.Nat.{ℕ}
 use lib.Dec.{ltb}
 use lib.ListN.{length}
 use Rattle.automata.specs.Automaton.{Automaton}
 use Rattle.automata.specs.LiveSets.{liveSets}
-use Rattle.automata.specs.Unfolding.{configurations, liveSet}
+use Rattle.automata.specs.Unfolding.{liveSet}
 use Rattle.format.specs.Refusals.{unlessRefused}
 use Rattle.count_promise.specs.WordCounts.{countsOf, limitRefusals}
 use Rattle.count_promise.specs.declared.WordCount.{WordCount}

@@ -1,5 +1,5 @@
 -- MeetAll: the loop over the letters of a range. Meeting those that are left, from where the table stands, is meeting all from where it stood.
-use mathlib.Core.Path.{_∙_, _≡_, ap, refl, subst, sym}
+use mathlib.Core.Path.{_∙_, _≡_, refl, subst, sym}
 use mathlib.Core.Logic.{inl, inr}
 use mathlib.Core.Bool.{Bool, _||_, false}
 use mathlib.Core.List.{List, [], _∷_}

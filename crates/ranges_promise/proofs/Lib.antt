@@ -1,4 +1,6 @@
+pub mod ByTwos
 pub mod Refusals
 pub mod Promise
 pub mod Settled
 pub mod Examples
+pub mod Laws

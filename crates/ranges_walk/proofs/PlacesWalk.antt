@@ -6,12 +6,10 @@ use mathlib.Core.Bool.{Bool, _||_, false, not, true, true≢false}
 use mathlib.Core.List.{List, [], _∷_}
 use Prim.Native.Nat.{_+_, _<_, _≤_, ℕ}
 use native.Mathlib.Decide.{decLt}
-use native.Mathlib.Numerals.{add-one, add-two}
 use native.Mathlib.Omega.{arith}
 use borrow.Author.Tests.{le-ltb, lt-ltb, ltb-true, not-false}
 use lib.Dec.{T, ltb}
 use lib.ListN.{drop, drop-of-length-le, getD, length}
-use lib.Seq.{drop-cons}
 use Rattle.automata.specs.LiveSets.{behind, sameSet}
 use Rattle.fillings.specs.Fillings.{Range, behindPlace, behindPlaces, fromTo, manyBehind}
 use Rattle.file_fields.specs.declared.Counts.{Counts}
@@ -23,6 +21,7 @@ use Rattle.live_table.specs.SetRows.{leftRow}
 use Rattle.live_table.specs.declared.Grown.{Grown}
 use Rattle.live_table.specs.declared.Grown.the-variants.{TooMany, Total}
 use Rattle.ranges_promise.specs.RangeAnswers.{badRanges, rangesOf}
+use Rattle.ranges_promise.proofs.Laws.{one-left, two-left}
 use Rattle.ranges_walk.specs.Walking.{BehindPlace, Ready, SetsIn, Walked}
 use Rattle.ranges_walk.proofs.WalkFrames.{ready-kept, sets-same}
 
@@ -47,15 +46,10 @@ pub place-at : (a : ℕ) (bytes : List ℕ) (i : ℕ) → i < length bytes → b
 unfolding badRanges rangesOf
 place-at a bytes i h e = go (decLt (i + 1) (length bytes))
   where
-    first : drop i bytes ≡ getD bytes i 0 ∷ drop (i + 1) bytes
-    first = rw add-one (drop-cons bytes i 0 h)
-
     go : Dec (i + 1 < length bytes) → Place a bytes i
-    go (no n) =
-        let one : drop i bytes ≡ getD bytes i 0 ∷ [] = first ∙ rw (drop-of-length-le bytes {i = i + 1} (omega (arith, n))) in
-        absurd (true≢false (rw one at e))
+    go (no n) = absurd (true≢false (rw (one-left bytes i (omega (arith, n))) at e))
     go (yes n) =
-        let two : drop i bytes ≡ getD bytes i 0 ∷ getD bytes (i + 1) 0 ∷ drop (i + 2) bytes = first ∙ rw (drop-cons bytes (i + 1) 0 n, add-one i, add-two i) in
+        let two = two-left bytes i n in
         let f = neither (ltb (getD bytes (i + 1) 0) (getD bytes i 0)) (not (ltb (getD bytes (i + 1) 0) a) || badRanges a (drop (i + 2) bytes)) (rw two at e) in
         let g = neither (not (ltb (getD bytes (i + 1) 0) a)) (badRanges a (drop (i + 2) bytes)) (f .1) in
         record { whole = n; letter = ltb-true (getD bytes (i + 1) 0) a (not-false (ltb (getD bytes (i + 1) 0) a) (g .0)); rest = g .1; ranges = rw two }
