@@ -47,12 +47,13 @@ pub enum Reason {
     JoinedBeyondALimit = 11,
     TooManyConfigurations = 21,
     TooManyPlainArcs = 22,
-    /// Of a word with ranges, its fillings up to one of its places lead to so many.
+    /// Of words of every length where words are counted; pairs of them where two files are compared; of a word with ranges those of its
+    /// fillings behind one place.
     TooManyLiveSets = 23,
     TooLittleMemoryLent = 24,
     OutputTooShort = 25,
     LengthTooLarge = 31,
-    /// Of the places of a word with ranges, two bytes each.
+    /// Of a word with ranges, two bytes for each place: one is left over, a low is above its high, or a high is no letter.
     BadRanges = 35,
 }
 

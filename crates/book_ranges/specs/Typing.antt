@@ -14,7 +14,7 @@ use Rattle.book_ranges.specs.declared.Typed.{Typed}
 use Rattle.book_ranges.specs.declared.Typed.the-variants.{NoLetter, Places, Unread}
 
 -- ---- what stands at the front of a text
--- a letter by itself is a place that has no other, of one byte
+-- a letter by itself is the place of that letter alone, of one byte; a byte that is no letter is none
 abbrev pub single : Letter → Place
 single (At l) = Letters l l 1
 single None = Foreign
@@ -29,6 +29,7 @@ rangeBetween None high = NoRange
 abbrev pub isShaped : List ℕ → Bool
 isShaped text = leb 5 (length text) && eqb (getD text 2 0) 0x2D && eqb (getD text 4 0) 0x5D
 
+-- a `[` at the front: a range, if its bytes are one's
 abbrev pub rangeFront : (letters text : List ℕ) → Place
 rangeFront letters text = cond (isShaped text) (rangeBetween (letterNumber letters (getD text 1 0)) (letterNumber letters (getD text 3 0))) NoRange
 
@@ -49,6 +50,7 @@ placesFrom letters skipped [] = []
 placesFrom letters (suc k) (b ∷ text) = placesFrom letters k text
 placesFrom letters zero (b ∷ text) = placeThen (placeFront letters (b ∷ text)) (λ taken. placesFrom letters (taken - 1) text)
 
+-- what stands in a whole text
 abbrev pub placesOf : (letters text : List ℕ) → List Place
 placesOf letters text = placesFrom letters 0 text
 

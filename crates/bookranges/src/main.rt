@@ -2,7 +2,7 @@
 // how many of its fillings the automaton of the file accepts, all, some or none: `always WORD`, `sometimes WORD` or `never WORD`, WORD as it
 // was typed. A word is typed by its letters, and a place whose letter is not sure as `[x-y]`: one of the automaton's letters from x to y, both
 // included. A `[` always begins a range, so the letter `[` is typed as `[[-[]`. An empty line is the empty word, and a word with a byte that is
-// no letter is never accepted. A file that is refused is told once, on standard error, and no word is read; a word that is refused, or has a
+// no letter is never accepted, whatever stands behind that byte and whatever ranges before it would be refused for. A file that is refused is told once, on standard error, and no word is read; a word that is refused, or has a
 // `[` that begins no range of letters, is told there too, and the next word is read.
 ghost use Prim.Native.Nat.{_*_, _≤_};
 ghost use lib.ListN.{length};

@@ -1,6 +1,6 @@
 -- Fillings: a word of which each letter is known only to lie between two letter numbers, and the words that it can be (document 02,
 -- change 7); and the states that these lead to. Over any states and any δ that says where a letter leads, with any test of which states are
--- the same.
+-- the same; and last, what 23 counts: live sets of an automaton.
 use mathlib.Core.Path.{_≡_}
 use mathlib.Core.Bool.{Bool, false, _||_}
 use mathlib.Core.List.{List, [], _∷_, _++_, flatMap, map}
@@ -18,6 +18,7 @@ pub record Range : Type 0 where
   pub low : ℕ
   pub high : ℕ
 
+-- the place with these two
 abbrev pub fromTo : (low high : ℕ) → Range
 fromTo low high = record { low = low; high = high }
 
@@ -58,7 +59,8 @@ pub record FilledSet (x : Automaton) (L : ℕ) (rs : List Range) (S : List Bool)
   pub fills : Fills rs word
   pub is : liveSet x L word ≡ S
 
--- behind one of the places there are more than P live sets: the fillings of the places up to it, a front of all, have more
+-- behind one of the places there are more than P live sets: the fillings of the places up to it, a front of all, have more. Of no places at
+-- all the empty word is the only filling, so where P is not 0 these are never too many
 pub record ManyFilled (x : Automaton) (L P : ℕ) (rs : List Range) : Type 0 where
   pub front : List Range
   pub rest : List Range

@@ -6,5 +6,5 @@ pub use Rattle.live_letters.proofs.Walking.{Walked, holds-start, table-
 -- a row that is met: what it leaves of the words, of the table and of the entries, and that the row of two empty sets stays known; equal views, of
 -- sets of numbers below n, have the same members
 pub use Rattle.live_letters.proofs.MeetRow.{dead-more, met, met-grows, met-kept, same-members}
--- a letter that is not met
-pub use Rattle.live_letters.proofs.MeetLetters.{empty-sets}
+-- a letter that is not met, and leads to a row that is known
+pub use Rattle.live_letters.proofs.MeetLetters.{empty-sets, skipped}

@@ -1,11 +1,14 @@
 -- MeetLetters: every letter from one row. The letters that are left make, from the entries so far, what all letters make from the first ones.
 use mathlib.Core.Path.{_∙_, _≡_, ap, refl, subst, sym}
+use mathlib.Core.Logic.{inl}
 use mathlib.Core.Bool.{Bool, _||_, false, not, true}
 use mathlib.Core.List.{List, [], _∷_, map}
 use mathlib.Core.Option.{some}
-use Prim.Native.Nat.{_*_, _+_, _-_, _<_, _≤_, suc, ℕ}
+use Prim.Native.Nat.{_*_, _+_, _-_, _<_, _≤_, suc, zero, ℕ}
+use native.Mathlib.Decide.{decLt}
 use native.Mathlib.Numerals.{add-one}
 use native.Mathlib.Omega.{arith}
+use lib.Bits.{bitOr}
 use lib.Dec.{T}
 use lib.ListN.{getElem?, length}
 use Rattle.automata.specs.Exploration.{add, addAll}
@@ -16,6 +19,7 @@ use Rattle.automata.proofs.Laws.{addAll-at, addAll-length}
 use Rattle.word_fields.specs.Frame.{Kept}
 use Rattle.word_fields.proofs.Laws.{kept-same, kept-then}
 use Rattle.word_sets.specs.Sets.{bit}
+use Rattle.word_sets.proofs.Laws.{bit-or}
 use Rattle.table_sets.specs.Stepping.{setOf}
 use Rattle.table_sets.proofs.Laws.{set-off}
 use Rattle.word_layout.specs.Layout.{tableEnd}
@@ -24,7 +28,7 @@ use Rattle.live_table.specs.Entries.{Holds, Side, alike, along, onEntry}
 use Rattle.live_table.specs.SetRows.{Met, Old}
 use Rattle.live_table.specs.declared.Grown.{Grown}
 use Rattle.live_table.specs.declared.Grown.the-variants.{TooMany, Total}
-use Rattle.live_letters.specs.Meeting.{Behind, EmptyRow, Outcome, Table}
+use Rattle.live_letters.specs.Meeting.{Behind, EmptyRow, NextLetter, Outcome, Table}
 use Rattle.live_letters.proofs.MeetRow.{dead-more, met, met-grows, met-kept}
 
 -- ---- a letter that neither side meets
@@ -40,15 +44,17 @@ both-off met₁ met₂ l = go (bit met₁ l) (bit met₂ l)
     go false true x = absurd x
     go false false x = (refl, refl)
 
+-- a digit that is off in both words joined
+pub neither : (met₁ met₂ l : ℕ) → bit (bitOr met₁ met₂) l ≡ false → T (not (bit met₁ l || bit met₂ l))
+neither met₁ met₂ l e = rw (sym (bit-or met₁ met₂ l) ∙ e) tt
+
 pub empty-sets : (w : List ℕ) (acc₁ acc₂ met₁ met₂ l : ℕ) → T (not (bit met₁ l || bit met₂ l))
     → (setOf w acc₁ met₁ l ≡ 0 ∷ 0 ∷ 0 ∷ 0 ∷ []) × (setOf w acc₂ met₂ l ≡ 0 ∷ 0 ∷ 0 ∷ 0 ∷ [])
 empty-sets w acc₁ acc₂ met₁ met₂ l x = let o = both-off met₁ met₂ l x in (sym (set-off w acc₁ met₁ l (o .0)), sym (set-off w acc₂ met₂ l (o .1)))
 
 -- the row of two empty sets is known, and is what the letter leads to
-pub skipped : {tab : SetTable} {w : List ℕ} {n : ℕ} (acc₁ acc₂ met₁ met₂ l : ℕ) → EmptyRow tab w n → T (not (bit met₁ l || bit met₂ l)) → Old tab w w n n (setOf w acc₁ met₁ l) (setOf w acc₂ met₂ l)
-skipped {tab} {w} acc₁ acc₂ met₁ met₂ l e x =
-    let z = empty-sets w acc₁ acc₂ met₁ met₂ l x in
-    record { same = refl; many = refl; place = e .place; low = e .low; is = (e .is .0 ∙ sym (z .0), e .is .1 ∙ sym (z .1)) }
+pub skipped : {tab : SetTable} {w : List ℕ} {n : ℕ} {u v : List ℕ} → EmptyRow tab w n → (u ≡ 0 ∷ 0 ∷ 0 ∷ 0 ∷ []) × (v ≡ 0 ∷ 0 ∷ 0 ∷ 0 ∷ []) → Old tab w w n n u v
+skipped e z = record { same = refl; many = refl; place = e .place; low = e .low; is = (e .is .0 ∙ sym (z .0), e .is .1 ∙ sym (z .1)) }
 
 -- ---- the loop over the letters: letter l leads to the sets us l and vs l
 -- these are the sets behind the pair q
@@ -111,9 +117,17 @@ module _ (tab : SetTable) (a i from : ℕ) (us vs : ℕ → List ℕ) where
       let c : a - l ≡ 0 = omega arith in
       subst (λ (r : List (Entry Pair)). Holds tab s t w n r) (ap (λ (j : ℕ). addAll alike (f .so-far) (map (onEntry s t e) (countFrom l j))) (sym c) ∙ f .makes) (f .holds)
 
+  -- behind the last letter none is left
+  going-none : (w₀ w : List ℕ) (n l : ℕ) → a ≤ l → Going tab a i from us vs w₀ w n l → Going tab a i from us vs w₀ w n (l + 1)
+  unfolding countFrom
+  going-none w₀ w n l h g s t es e b k p =
+      let f = g s t es e b k p in
+      let c : a - (l + 1) ≡ 0 = omega arith in
+      let d : a - l ≡ 0 = omega arith in
+      record { so-far = f .so-far; holds = f .holds; stands = f .stands; makes = rw c (rw d at (f .makes)) }
+
 -- ---- the invariant: the letters below l are done, and where `dead` the row of two empty sets is known
 pub record Turns (tab : SetTable) (a i from : ℕ) (us vs : ℕ → List ℕ) (w₀ w : List ℕ) (n : ℕ) (dead : Bool) (l : ℕ) : Type 0 where
-  pub few : l ≤ a
   pub kept : Kept (tab .rows) (tableEnd tab) w₀ w
   pub more : from ≤ n
   pub table : Table a tab w n
@@ -122,7 +136,6 @@ pub record Turns (tab : SetTable) (a i from : ℕ) (us vs : ℕ → List ℕ) (w
 
 pub turns-start : (tab : SetTable) (a i from : ℕ) (us vs : ℕ → List ℕ) (w : List ℕ) → Table a tab w from → Turns tab a i from us vs w w from false 0
 turns-start tab a i from us vs w t = record {
-  few = omega arith;
   kept = kept-same (tab .rows) (tableEnd tab) w;
   more = omega arith;
   table = t;
@@ -146,7 +159,6 @@ module _ {tab : SetTable} {a i from : ℕ} {us vs : ℕ → List ℕ} {w₀ w : 
       let y : At (Total m) = subst At e x in
       let g = met-grows a tab w w' (us l) (vs l) n i l low hl ha (k .table) (Total m) y in
       record {
-        few = omega arith;
         kept = turns-kept;
         more = omega (arith, k .more, g .0);
         table = g .1;
@@ -157,3 +169,26 @@ module _ {tab : SetTable} {a i from : ℕ} {us vs : ℕ → List ℕ} {w₀ w : 
   pub turns-over : r ≡ TooMany → (s t : Side) (es : List (Entry Pair)) (d : Entry Pair) → AllBehind a s t us vs (d .state) → Holds tab s t w₀ from es → getElem? es i ≡ some d
       → 512 < length (addAll alike es (nextEntries (along s t) a d))
   turns-over e s t es d b h p = going-over tab a i from us vs w₀ w w' n l ha hl (k .going) s t es d b h p (subst At e x)
+
+-- ---- letters that are passed over: each leads to a row that is known
+module _ (tab : SetTable) (a i from : ℕ) (us vs : ℕ → List ℕ) (w₀ w : List ℕ) (n : ℕ) (dead : Bool) (ha : a ≤ 64) where
+  abbrev Here : ℕ → Type 0
+  Here l = Turns tab a i from us vs w₀ w n dead l
+
+  turns-past : {l : ℕ} → Here l → Old tab w w n n (us l) (vs l) → Here (l + 1)
+  turns-past {l} k o = record { kept = k .kept; more = k .more; table = k .table; empty = k .empty; going = go (decLt l a) }
+    where
+      go : Dec (l < a) → Going tab a i from us vs w₀ w n (l + 1)
+      go (yes h) = λ s t es e b j p. going-more tab a i from us vs w₀ w w n l ha h (k .going) s t es e b j p n (inl o)
+      go (no h) = going-none tab a i from us vs w₀ w n l (omega arith) (k .going)
+
+  turns-all-past : (d l : ℕ) → Here l → ((j : ℕ) → l ≤ j → j < l + d → Old tab w w n n (us j) (vs j)) → Here (l + d)
+  turns-all-past zero l k o = let e : l ≡ l + 0 = omega arith in subst Here e k
+  turns-all-past (suc d) l k o =
+      let e : l + 1 + d ≡ l + suc d = omega arith in
+      subst Here e (turns-all-past d (l + 1) (turns-past k (o l (omega arith) (omega arith))) (λ j h g. o j (omega arith) (omega arith)))
+
+  pub turns-next : {met l next : ℕ} → Here (l + 1) → NextLetter met dead l next → ((j : ℕ) → bit met j ≡ false → (us j ≡ 0 ∷ 0 ∷ 0 ∷ 0 ∷ []) × (vs j ≡ 0 ∷ 0 ∷ 0 ∷ 0 ∷ [])) → Here next
+  turns-next {met} {l} {next} k b off =
+      let e : l + 1 + (next - (l + 1)) ≡ next = omega (arith, b .later) in
+      subst Here e (turns-all-past (next - (l + 1)) (l + 1) k (λ j h g. let z = b .between j (omega arith) (omega arith) in skipped (k .empty (z .0)) (off j (z .1))))

@@ -1,13 +1,14 @@
 -- Meeting: what meeting the letters from a row asks of a table of live sets (crate live_table), and what it leaves there.
 use mathlib.Core.Path.{_≡_}
-use mathlib.Core.Bool.{Bool}
+use mathlib.Core.Bool.{Bool, false}
 use mathlib.Core.List.{List, [], _∷_}
 use Prim.Native.Nat.{ℕ, _+_, _<_, _≤_}
+use lib.Dec.{T}
 use lib.ListN.{length}
 use Rattle.automata.specs.Live.{byLetter}
 use Rattle.automata.specs.Search.{Entry}
 use Rattle.automata.specs.Pairs.{Pair}
-use Rattle.word_sets.specs.Sets.{view, εClosedSet}
+use Rattle.word_sets.specs.Sets.{bit, view, εClosedSet}
 use Rattle.table_sets.specs.Stepping.{setOf}
 use Rattle.word_layout.specs.Layout.{tableEnd}
 use Rattle.word_layout.specs.declared.SetTable.{SetTable}
@@ -43,6 +44,11 @@ pub record LetterRoom (tab : SetTable) (w : List ℕ) (acc₁ acc₂ met₁ met�
   pub long₁ : acc₁ + 256 ≤ length w
   pub long₂ : acc₂ + 256 ≤ length w
   pub one : tab .sets ≡ 1 → (acc₁ ≡ acc₂) × (met₁ ≡ met₂)
+
+-- r is a letter behind l, with none between them but, where `dead`, letters that are not met
+pub record NextLetter (met : ℕ) (dead : Bool) (l r : ℕ) : Type 0 where
+  pub later : l < r
+  pub between : (j : ℕ) → l < j → j < r → T dead × (bit met j ≡ false)
 
 -- ---- what the words stand for
 

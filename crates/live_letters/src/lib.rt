@@ -4,7 +4,6 @@ ghost use mathlib.Core.Bool.{not, _||_};
 ghost use mathlib.Core.List.{List};
 ghost use mathlib.Core.Option.{some};
 ghost use Prim.Native.Nat.{_+_, _*_, _≤_, _<_};
-ghost use lib.Dec.{T};
 ghost use lib.ListN.{getElem?};
 ghost use Rattle.automata.specs.Exploration.{addAll};
 ghost use Rattle.automata.specs.Search.{Entry, nextEntries};
@@ -15,7 +14,7 @@ ghost use Rattle.table_sets.specs.Stepping.{setOf};
 ghost use Rattle.word_layout.specs.Layout.{Tabled, tableEnd};
 ghost use Rattle.live_table.specs.Entries.{Side, along, alike, Holds};
 ghost use Rattle.live_table.specs.SetRows.{RowChain, Met};
-ghost use Rattle.live_letters.specs.Meeting.{Table, Grows, EmptyRow, LetterRoom, LetterSets, Outcome};
+ghost use Rattle.live_letters.specs.Meeting.{Table, Grows, LetterRoom, LetterSets, NextLetter, Outcome};
 use live_table::Grown;
 use live_table::meet;
 use table_sets::set_of;
@@ -30,8 +29,27 @@ pub fn unmet(met1: u64, met2: u64, l: usize) -> bool
     (met1 | met2) & (1u64 << l) == 0
 }
 
-// Letter l from row i, of the sets that steps have left for each letter: the left ones from acc1 on, the right ones from acc2 on. Where
-// `dead`, the row of two empty sets is known, and a letter that neither side meets leads to no other.
+// The letter to be met behind l, of those before `end`; `end` or more where none is left. Where `dead`, the row that letters lead to which are
+// not met is known, and they are passed over.
+// Cost: constant.
+pub fn next_letter(met: u64, l: usize, end: usize, dead: bool) -> usize
+    requires { ⌜ (l < end) × (end ≤ 64) ⌝ }
+    ensures { λ r. ⌜ NextLetter met dead l r ⌝ }
+{
+    let next = l + 1;
+    if !dead {
+        return next;
+    }
+    if next < end {
+        let rest = met >> next;
+        if rest != 0 {
+            return next + u64::trailing_zeros(rest) as usize;
+        }
+    }
+    end
+}
+
+// Letter l from row i, of the sets that steps have left for each letter: the left ones from acc1 on, the right ones from acc2 on.
 // Cost: as many steps as rows have the key of the one that is met.
 fn meet_letter(
     w: &mut [u64],
@@ -43,16 +61,12 @@ fn meet_letter(
     n: usize,
     met1: u64,
     met2: u64,
-    dead: bool,
 ) -> Grown
     requires { ⌜ (i < 512) × ((l < 64) × (n ≤ 512)) ⌝ }
     requires { ⌜ Tabled (now w) t × LetterRoom t (now w) acc1 acc2 met1 met2 ⌝ }
-    requires { ⌜ RowChain t (now w) n × (T dead → EmptyRow t (now w) n) ⌝ }
+    requires { ⌜ RowChain t (now w) n ⌝ }
     ensures { λ r. ⌜ Met t (now (w .entry)) (now (w .exit)) n (setOf (now (w .entry)) acc1 met1 l) (setOf (now (w .entry)) acc2 met2 l) (i * 64 + l) r ⌝ }
 {
-    if dead & unmet(met1, met2, l) {
-        return Grown::Total(n);
-    }
     let u = set_of(w, acc1, met1, l);
     let v = set_of(w, acc2, met2, l);
     meet(w, t, n, u, v, i * 64 + l)
@@ -83,7 +97,7 @@ pub fn meet_letters(
     let mut dead = false;
     let mut l: usize = 0;
     while l < a {
-        match meet_letter(w, t, acc1, acc2, i, l, n, met1, met2, dead) {
+        match meet_letter(w, t, acc1, acc2, i, l, n, met1, met2) {
             Grown::TooMany => {
                 return Grown::TooMany;
             }
@@ -92,7 +106,7 @@ pub fn meet_letters(
             }
         }
         dead = dead | unmet(met1, met2, l);
-        l += 1;
+        l = next_letter(met1 | met2, l, a, dead);
     }
     Grown::Total(n)
 }

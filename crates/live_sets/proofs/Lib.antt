@@ -1,5 +1,4 @@
 pub mod SameRow
 pub mod MetAllLaws
-pub mod NextLetters
 pub mod MeetAll
 pub mod Laws

@@ -17,9 +17,9 @@ use Rattle.word_layout.specs.declared.SetTable.{SetTable}
 use Rattle.live_table.specs.SetRows.{Met, RowChain}
 use Rattle.live_table.specs.declared.Grown.{Grown}
 use Rattle.live_table.specs.declared.Grown.the-variants.{TooMany, Total}
-use Rattle.live_letters.specs.Meeting.{EmptyRow}
-use Rattle.live_letters.proofs.Laws.{dead-more, met-kept}
-use Rattle.live_sets.specs.MeetingAll.{MetAll, NextLetter}
+use Rattle.live_letters.specs.Meeting.{EmptyRow, NextLetter}
+use Rattle.live_letters.proofs.Laws.{dead-more, met-kept, skipped}
+use Rattle.live_sets.specs.MeetingAll.{MetAll}
 use Rattle.live_sets.proofs.MetAllLaws.{met-rows}
 
 -- all letters of the range are met, from the words w₀ and `from` rows on
@@ -56,7 +56,7 @@ module _ (tab : SetTable) (sets : ℕ → List ℕ) (i end : ℕ) (w : List ℕ)
   unfolding MetAll
   one-over l z x (yes h) =
       subst (λ (letters : List ℕ). MetAll tab sets i letters w n v g) (these l end h)
-      (inr (w, n, inl (record { same = refl; many = refl; place = known .place; low = known .low; is = (known .is .0 ∙ sym z, known .is .1 ∙ sym z) }), x))
+      (inr (w, n, inl (skipped known (z, z)), x))
   one-over l z x (no h) = subst (λ (letters : List ℕ). MetAll tab sets i letters w n v g) (none-left (l + 1) end (omega arith) ∙ sym (none-left l end (omega arith))) x
 
   passed-over : (d l : ℕ) → ((j : ℕ) → l ≤ j → j < l + d → sets j ≡ 0 ∷ 0 ∷ 0 ∷ 0 ∷ []) → Rest (l + d) → Rest l

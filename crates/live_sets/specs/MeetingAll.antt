@@ -1,11 +1,8 @@
 -- MeetingAll: the sets of letters met one after the other, each as crate live_table says of a single row (`Met`).
 use mathlib.Core.Path.{_≡_}
 use mathlib.Core.Logic.{_⊎_}
-use mathlib.Core.Bool.{Bool, false}
 use mathlib.Core.List.{List, [], _∷_}
-use Prim.Native.Nat.{ℕ, _+_, _*_, _<_}
-use lib.Dec.{T}
-use Rattle.word_sets.specs.Sets.{bit}
+use Prim.Native.Nat.{ℕ, _+_, _*_}
 use Rattle.word_layout.specs.declared.SetTable.{SetTable}
 use Rattle.live_table.specs.SetRows.{Met}
 use Rattle.live_table.specs.declared.Grown.{Grown}
@@ -18,8 +15,3 @@ MetAll t sets i [] w n w' r = (w' ≡ w) × (r ≡ Total n)
 MetAll t sets i (l ∷ letters) w n w' r =
     (Met t w w' n (sets l) (sets l) (i * 64 + l) TooMany × (r ≡ TooMany))
     ⊎ ((v : List ℕ) × (m : ℕ) × Met t w v n (sets l) (sets l) (i * 64 + l) (Total m) × MetAll t sets i letters v m w' r)
-
--- r is a letter behind l, with none between them but, where `dead`, letters that are not met
-pub record NextLetter (met : ℕ) (dead : Bool) (l r : ℕ) : Type 0 where
-  pub later : l < r
-  pub between : (j : ℕ) → l < j → j < r → T dead × (bit met j ≡ false)

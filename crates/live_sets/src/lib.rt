@@ -1,6 +1,6 @@
-// live_sets: a table with one set to a row, of one automaton: a set found again by its key, one that is met, and every letter from a row. They
-// leave what crates live_table and live_letters leave of a pair whose two sets are this one, and look at it once. Comparing's search has
-// callers of its own alone, and so it is compiled with its places written in.
+// live_sets: a table with one set to a row, of one automaton: a set found again by its key, one that is met, and the letters of a range from a
+// row. Crates live_table and live_letters have the same of pairs, and look at both sets; comparing has those to itself, so that the compiler
+// can write its places into them.
 ghost use mathlib.Core.Path.{_≡_};
 ghost use mathlib.Core.Logic.{_↔_};
 ghost use Prim.Native.Nat.{_+_, _-_, _*_, _≤_, _<_};
@@ -12,7 +12,8 @@ ghost use Rattle.table_sets.specs.Stepping.{setOf};
 ghost use Rattle.word_layout.specs.Layout.{Tabled, tableEnd};
 ghost use Rattle.live_table.specs.SetRows.{RowAt, RowChain, Met};
 ghost use Rattle.live_letters.specs.Meeting.{LetterRoom};
-ghost use Rattle.live_sets.specs.MeetingAll.{MetAll, NextLetter};
+ghost use Rattle.live_sets.specs.MeetingAll.{MetAll};
+use live_letters::next_letter;
 use live_letters::unmet;
 use live_table::Grown;
 use live_table::add_row;
@@ -87,27 +88,8 @@ fn meet_letter(
     meet_set(w, t, n, u, i * 64 + l)
 }
 
-// The letter to be met behind l, of those before `end`. Where `dead`, the row of the empty set is known, and letters that are not met lead to
-// no other: they are passed over.
-// Cost: constant.
-fn next_letter(met: u64, l: usize, end: usize, dead: bool) -> usize
-    requires { ⌜ (l < end) × (end ≤ 64) ⌝ }
-    ensures { λ r. ⌜ NextLetter met dead l r ⌝ }
-{
-    let next = l + 1;
-    if !dead {
-        return next;
-    }
-    if next < end {
-        let rest = met >> next;
-        if rest != 0 {
-            return next + u64::trailing_zeros(rest) as usize;
-        }
-    }
-    end
-}
-
-// The letters from `low` on, up to `end`, from row i, of the sets that a step has left for each letter.
+// The letters from `low` on, before `end`, of the sets that a step has left for each letter, from `acc` on: the table of `from` rows becomes one
+// of more. Row i is noted as the parent of those that are new.
 // Cost: for each letter that is met, and one that is not, as `meet_letter`.
 pub fn meet_letters(
     w: &mut [u64],

@@ -85,7 +85,7 @@ fn judge(w: &[u64], n: usize, finals: [u64; 4]) -> Ranged
 
 // The automaton of a valid file stands in its block, and the places are ranges of its letters. They are walked, and the live sets behind the
 // last one are judged. Refuses 23: more than 512 live sets behind one of them.
-// Cost: that of `walk_places`, and a look at each configuration.
+// Cost: that of `walk_places` and of `judge`, and a look at each configuration.
 fn judge_places(file: &[u8], c: Counts, w: &mut [u64], block: Block, places: &[u8]) -> Ranged
     requires { ⌜ Ready (now file) c (now w) block × (badRanges (c .letters) (now places) ≡ false) ⌝ }
     ensures same { λ _. ⌜ length (now (w .exit)) ≡ length (now (w .entry)) ⌝ }

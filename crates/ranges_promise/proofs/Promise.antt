@@ -18,11 +18,11 @@ use Rattle.fillings.proofs.Laws.{fillable, filling-accepted, filling-rejected, 
 use Rattle.format.specs.Decoding.{automatonOf}
 use Rattle.format.specs.Refusals.{FirstHolds, faultOf, unlessRefused}
 use Rattle.file_laws.proofs.Laws.{NoneHolds, Outcome, at-least, first-exactly, first-some, none-first, refused-or-not}
-use Rattle.ranges_promise.specs.Promised.{AcceptedFilling, Premises, Promised, RejectedFilling, conditions}
+use Rattle.ranges_promise.specs.Promised.{AcceptedFilling, Premises, Promised, RejectedFilling, bytesOf, conditions}
 use Rattle.ranges_promise.specs.RangeAnswers.{filledSets, fillingsOf, judged, rangedOf, rangedWithin, rangesOf, refusals, told}
 use Rattle.ranges_promise.specs.declared.Ranged.{Ranged}
 use Rattle.ranges_promise.specs.declared.Ranged.the-variants.{Refused}
-use Rattle.ranges_promise.proofs.Refusals.{refusals-decide, sound-ranges}
+use Rattle.ranges_promise.proofs.Refusals.{bytes-again, refusals-decide, sound-ranges}
 
 module _ (file bytes : List ℕ) (words : ℕ) where
   abbrev x : Automaton
@@ -67,10 +67,13 @@ module _ (file bytes : List ℕ) (words : ℕ) where
   filled : Premises file bytes words → (word : List ℕ) × Fills rs word
   filled p = fillable rs (sound-ranges (letters x) bytes (p .sound))
 
+  written : Premises file bytes words → bytesOf rs ≡ bytes
+  written p = bytes-again bytes (λ e. p .sound (inl e))
+
   -- ---- where the word is judged
   module _ (p : Premises file bytes words) where
     -- where no filling is rejected every one is accepted, since acceptance is decided
-    none-rejected : ¬ RejectedFilling x rs → Every
+    pub none-rejected : ¬ RejectedFilling x rs → Every
     none-rejected n w f = go (acceptsSet x 256 (liveSet x 256 w)) (set-accepts x 256 (few (p .few-configurations)) w)
       where
         go : (b : Bool) → T b ↔ Accepts x w → Accepts x w
@@ -82,6 +85,7 @@ module _ (file bytes : List ℕ) (words : ℕ) where
         → Promised file bytes words (record { number = 0; at-fault = 0; always = always; sometimes = sometimes; never = never })
     told-as always sometimes never a s n = record {
       answers = (λ _. p, λ _. refl);
+      placed = written;
       always = (λ t. (p, a .0 t), λ h. a .1 (h .1));
       never = (λ t. (p, n .0 t), λ h. n .1 (h .1));
       sometimes = (λ t. let b = s .0 t in (p, b .0, b .1), λ h. s .1 (h .1, h .2));
@@ -131,6 +135,7 @@ module _ (file bytes : List ℕ) (words : ℕ) where
   refused : (n b : ℕ) → 0 < n → FirstHolds cs n b → Promised file bytes words (told (Refused n b))
   refused n b pos f = record {
     answers = (λ z. absurd (omega arith), λ p. absurd (none p));
+    placed = written;
     always = (λ t. absurd t, λ h. none (h .0));
     never = (λ t. absurd t, λ h. none (h .0));
     sometimes = (λ t. absurd t, λ h. none (h .0));

@@ -1,11 +1,13 @@
--- Refusals: the tests of a word with ranges decide the conditions of its refusals, and ranges that pass the test have letters.
-use mathlib.Core.Path.{_≡_, refl, subst}
+-- Refusals: the tests of a word with ranges decide the conditions of its refusals, and ranges that pass the test have letters and
+-- are those of the bytes.
+use mathlib.Core.Path.{_≡_, ap, refl, subst}
 use mathlib.Core.Logic.{_↔_, _⊎_, inl, inr, ⊎-elim}
 use mathlib.Core.Bool.{Bool, _||_, not}
 use mathlib.Core.List.{List, List·Memᴰ, List·Memᴰ·cases-cons, List·Memᴰ·head, List·Memᴰ·not-nil, List·Memᴰ·tail, [], _∷_}
-use Prim.Native.Nat.{ℕ, _<_, _≤_}
+use Prim.Native.Nat.{ℕ, _%_, _<_, _≤_}
 use native.Mathlib.Omega.{arith}
 use lib.Dec.{T, ltb}
+use lib.ListN.{length}
 use Rattle.automata.specs.Automaton.{letters}
 use Rattle.automata.specs.Lists.{Each}
 use Rattle.automata.proofs.Laws.{iff-trans, mem-each, not-iff, or-iff}
@@ -13,7 +15,7 @@ use Rattle.fillings.specs.Fillings.{Range, fromTo}
 use Rattle.fillings.proofs.Laws.{filling-many}
 use Rattle.format.specs.Decoding.{automatonOf}
 use Rattle.file_laws.proofs.Laws.{Decide, at-least, decided, fault-decided, less-decided, less-iff, reach-decided}
-use Rattle.ranges_promise.specs.Promised.{BadRanges, conditions}
+use Rattle.ranges_promise.specs.Promised.{BadRanges, bytesOf, conditions}
 use Rattle.ranges_promise.specs.RangeAnswers.{badRanges, limitRefusals, manySets, rangesOf, refusals}
 
 -- ---- 35
@@ -54,6 +56,13 @@ bad-iff a (low ∷ high ∷ s) =
 -- ranges that are not refused have letters
 pub sound-ranges : (a : ℕ) (bytes : List ℕ) → ¬ BadRanges a bytes → Each (λ r. r .low ≤ r .high) (rangesOf bytes)
 sound-ranges a bytes h = mem-each (rangesOf bytes) (λ r m. at-least (r .high) (r .low) (λ l. h (inr (r, m, inl l))))
+
+-- with no byte left over the places, written down, are the bytes
+pub bytes-again : (bytes : List ℕ) → ¬ (length bytes % 2 ≡ 1) → bytesOf (rangesOf bytes) ≡ bytes
+unfolding rangesOf
+bytes-again [] h = refl
+bytes-again (low ∷ []) h = absurd (h refl)
+bytes-again (low ∷ high ∷ s) h = ap (λ (l : List ℕ). low ∷ high ∷ l) (bytes-again s (λ e. h (omega (arith, e))))
 
 -- ---- each test of the call decides its condition
 pub refusals-decide : (file bytes : List ℕ) (words : ℕ) → Decide (refusals 256 512 file bytes words) (conditions file bytes words)

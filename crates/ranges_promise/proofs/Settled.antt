@@ -1,8 +1,9 @@
 -- Settled: what is promised of a word with ranges leaves nothing open. Two answers to one call, as they are told, that both keep the promise are
--- one. And a word whose letters are all known, the empty one among them, has one filling: what is told of it is what membership says.
+-- one. Where nothing is refused one of the three is told, and no other. And a word whose letters are all known, the empty one among them, has one
+-- filling, and is told always just if it is accepted.
 use mathlib.Core.Path.{_∙_, _≡_, ap₂, refl, subst, sym}
-use mathlib.Core.Logic.{_↔_}
-use mathlib.Core.Bool.{Bool}
+use mathlib.Core.Logic.{_↔_, _⊎_, inl, inr}
+use mathlib.Core.Bool.{Bool, false, true}
 use mathlib.Core.List.{List, [], _∷_}
 use Prim.Native.Nat.{ℕ}
 use native.Mathlib.Omega.{arith}
@@ -13,6 +14,7 @@ use Rattle.fillings.specs.Fillings.{Fills}
 use Rattle.format.specs.Decoding.{automatonOf}
 use Rattle.ranges_promise.specs.Promised.{Promised}
 use Rattle.ranges_promise.specs.RangeAnswers.{Told, rangesOf}
+use Rattle.ranges_promise.proofs.Promise.{none-rejected}
 
 -- two tests of one thing are one
 one-test : {A : Type 0} (a b : Bool) → T a ↔ A → T b ↔ A → a ≡ b
@@ -39,6 +41,28 @@ ranging-settled file bytes words t u p q = λ i. record { number = number i; at-
 
     never : t .never ≡ u .never
     never = one-test (t .never) (u .never) (p .never) (q .never)
+
+-- ---- where nothing is refused one of the three is told, and no other
+-- the first of three tests holds, and the others do not
+abbrev Only : (a b c : Bool) → Type 0
+Only a b c = T a × (¬ T b) × (¬ T c)
+
+one-of : (a s n : Bool) → (T a → ¬ T s) → (T a → ¬ T n) → (T n → ¬ T s) → ¬ ((¬ T a) × (¬ T s) × (¬ T n)) → Only a s n ⊎ (Only s a n ⊎ Only n a s)
+one-of true s n f g h some = inl (tt, f tt, g tt)
+one-of false true n f g h some = inr (inl (tt, λ t. t, λ t. h t tt))
+one-of false false true f g h some = inr (inr (tt, λ t. t, λ t. t))
+one-of false false false f g h some = absurd (some (λ t. t, λ t. t, λ t. t))
+
+module _ (file bytes : List ℕ) (words : ℕ) (t : Told) (p : Promised file bytes words t) where
+  pub one-told : t .number ≡ 0 → Only (t .always) (t .sometimes) (t .never) ⊎ (Only (t .sometimes) (t .always) (t .never) ⊎ Only (t .never) (t .always) (t .sometimes))
+  one-told z =
+      let h = p .answers .0 z in
+      let f = p .fillable h in
+      one-of (t .always) (t .sometimes) (t .never)
+      (λ a s. let r = p .sometimes .0 s .2 in r .rejects (p .always .0 a .1 (r .word) (r .fills)))
+      (λ a n. p .never .0 n .1 (f .0) (f .1) (p .always .0 a .1 (f .0) (f .1)))
+      (λ n s. let y = p .sometimes .0 s .1 in p .never .0 n .1 (y .word) (y .fills) (y .accepts))
+      (λ k. k .2 (p .never .1 (h, λ w g y. k .0 (p .always .1 (h, none-rejected file bytes words h (λ r. k .1 (p .sometimes .1 (h, record { word = w; fills = g; accepts = y }, r))))))))
 
 -- ---- words whose letters are all known
 -- the bytes of a word's letters, each its place's low and high

@@ -1,7 +1,7 @@
 -- Promised: what is promised of a word with ranges (document 02, change 7, with the exact condition of each refusal). A filling is a word of
 -- letter numbers; whether it is accepted, and configurations, are those of runs; live sets (23) are document 01's, over numbered
--- configurations, and `one-set` says by runs when two words have one. Nothing here is the contract's but `Told`: a contract that says less
--- does not give this promise. And a promise that says less leaves something open, which proofs/Settled.antt rules out.
+-- configurations, and `one-set` says by runs when two words have one. Nothing here is the contract's but `Told` and
+-- `rangesOf`, and what the latter makes of the bytes is said by `placed`: a contract that says less does not give this promise. And a promise that says less leaves something open, which proofs/Settled.antt rules out.
 use mathlib.Core.Path.{_≡_}
 use mathlib.Core.Logic.{_↔_, _⊎_}
 use mathlib.Core.List.{List, List·Memᴰ, [], _∷_}
@@ -41,6 +41,11 @@ pub record Premises (file bytes : List ℕ) (words : ℕ) : Type 0 where
   pub few-configurations : ¬ MoreThan (Reachable (automatonOf file)) 256
   pub few-sets : ¬ ManyFilled (automatonOf file) 256 512 (rangesOf bytes)
 
+-- places written down: two bytes each, low then high
+abbrev pub bytesOf : List Range → List ℕ
+bytesOf [] = []
+bytesOf (r ∷ rs) = r .low ∷ r .high ∷ bytesOf rs
+
 -- a filling of the places that x accepts, and one that it does not
 pub record AcceptedFilling (x : Automaton) (rs : List Range) : Type 0 where
   pub word : List ℕ
@@ -56,13 +61,16 @@ pub record RejectedFilling (x : Automaton) (rs : List Range) : Type 0 where
 pub record Promised (file bytes : List ℕ) (words : ℕ) (t : Told) : Type 0 where
   -- nothing is refused just under the premises
   pub answers : (t .number ≡ 0) ↔ Premises file bytes words
+  -- the places are those of the bytes: written down they are the bytes again
+  pub placed : Premises file bytes words → bytesOf (rangesOf bytes) ≡ bytes
   -- always just if every filling is accepted, never just if none is, sometimes otherwise
   pub always : T (t .always) ↔ (Premises file bytes words × ((word : List ℕ) → Fills (rangesOf bytes) word → Accepts (automatonOf file) word))
   pub never : T (t .never) ↔ (Premises file bytes words × ((word : List ℕ) → Fills (rangesOf bytes) word → ¬ Accepts (automatonOf file) word))
   pub sometimes : T (t .sometimes) ↔ (Premises file bytes words × AcceptedFilling (automatonOf file) (rangesOf bytes) × RejectedFilling (automatonOf file) (rangesOf bytes))
-  -- there is a filling, so no two of the three hold; with no places the empty word is the only one, so it is not the third
+  -- there is a filling, so that no two of the three are told; with no places the empty word is the only one, so that sometimes is not
   pub fillable : Premises file bytes words → (word : List ℕ) × Fills (rangesOf bytes) word
-  -- where live sets are counted, that is where 21 does not hold, two words have one just if runs that spell them end in the same configurations
+  -- where live sets are counted, that is where 21 does not hold, two words have the same one just if runs that spell them end in the
+  -- same configurations
   pub one-set : ¬ MoreThan (Reachable (automatonOf file)) 256 → (v w : List ℕ) → (liveSet (automatonOf file) 256 v ≡ liveSet (automatonOf file) 256 w) ↔ SameEnds (automatonOf file) v w
   -- each refusal has its number and its automaton at fault just where its condition is the first that holds; where none holds, both are 0
   pub refuses : (n b : ℕ) → ((t .number ≡ n) × (t .at-fault ≡ b)) ↔ FirstHolds (conditions file bytes words) n b

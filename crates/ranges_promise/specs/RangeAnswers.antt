@@ -40,7 +40,7 @@ filledSets L x bytes = behindPlaces sameSet (behind x L) (liveSet x L [] ∷ [])
 
 -- ---- the refusals in their order, each a test with the number of the refusal and the automaton at fault; the first test that holds
 -- refuses. L is the limit on configurations, P that on live sets
--- of the automaton x and the word: 35, a place is none; 21, more than L configurations; 23, more than P live sets behind one place
+-- of the automaton x and the word: 35, a byte is left over or a place is no range of letters; 21, more than L configurations; 23, more than P live sets behind one place
 unfoldable pub limitRefusals : (L P : ℕ) → Automaton → (bytes : List ℕ) → List (Bool × ℕ × ℕ)
 unfolding badRanges manySets configurations
 limitRefusals L P x bytes =

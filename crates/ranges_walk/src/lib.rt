@@ -31,8 +31,9 @@ use word_layout::SET_ROWS;
 use word_rows::load;
 use word_rows::store;
 
-// From set i of those before a place, by the letters from `low` on, up to `end`: the n sets behind it become more.
-// Cost: a step by all letters, and a look into the table for each of these letters that is met.
+// From set i of those before a place, by the letters from `low` on, before `end`: the n sets behind it become more. Nobody asks for their
+// parents, so 0 is noted.
+// Cost: a step by all letters, and a look into the table for each of these letters that is met, and for one that is not.
 fn expand(
     file: &[u8],
     c: Counts,
@@ -56,7 +57,7 @@ fn expand(
 }
 
 // The live sets behind a place whose letter has a number from `low` to `high`, of the n before it; or that they are more than 512.
-// Cost: that of `expand` for each of the n.
+// Cost: that of `expand` for each of the n, and 128 words that are emptied.
 fn behind_place(
     file: &[u8],
     c: Counts,
@@ -105,7 +106,7 @@ fn copy_rows(w: &mut [u64], n: usize)
 }
 
 // From the live set that stands before the first place, the live sets behind the last one; or that there are more than 512 behind one of them.
-// Cost: for each place that of `behind_place`, of the sets before it.
+// Cost: for each place that of `behind_place`, of the sets before it, and of `copy_rows`.
 pub fn walk_places(file: &[u8], c: Counts, w: &mut [u64], block: Block, places: &[u8]) -> Grown
     requires { ⌜ Ready (now file) c (now w) block × (badRanges (c .letters) (now places) ≡ false) ⌝ }
     ensures same { λ _. ⌜ length (now (w .exit)) ≡ length (now (w .entry)) ⌝ }

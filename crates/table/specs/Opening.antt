@@ -1,5 +1,5 @@
--- Opening: the refusals that every call with a table of an automaton begins with (document 01, the order of refusals), and what is in
--- the words once a file is open.
+-- Opening: the refusals that membership and unfolding begin with (document 01, the order of refusals), and what is in the words once a file is
+-- open.
 use mathlib.Core.Path.{_≡_}
 use mathlib.Core.Bool.{Bool}
 use mathlib.Core.List.{List, [], _∷_}

@@ -1,5 +1,5 @@
 -- Layout: where everything stands in the 8,192 lent words, each place once. What an automaton's building, a step and comparing write lies
--- below the blocks, so that one statement about what is kept keeps both automata. Where the live sets of one automaton are counted, what a
+-- below the blocks, so that one statement about what is kept keeps both automata. Where the live sets of one automaton are met, what a
 -- search writes is one stretch of words above the building's tables and the block. The code has the same places by the same names
 -- (src/lib.rt).
 use mathlib.Core.Path.{_≡_}

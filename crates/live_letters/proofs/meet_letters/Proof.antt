@@ -8,7 +8,7 @@ use Rattle.table_sets.specs.Stepping.{setOf}
 use Rattle.live_table.specs.SetRows.{Met}
 use Rattle.live_table.proofs.Laws.{tabled-kept}
 use Rattle.live_letters.proofs.TableFrames.{met-as-left, room-kept}
-use Rattle.live_letters.proofs.MeetLetters.{Turns, empty-sets, going-end, turns-kept, turns-more, turns-over, turns-start}
+use Rattle.live_letters.proofs.MeetLetters.{Turns, empty-sets, going-end, neither, turns-kept, turns-more, turns-next, turns-over, turns-start}
 use Rattle.live_letters.proofs.meet_letters.Statement.{statement}
 use Rattle.live_letters.proofs.meet_letters.Tie as tie
 
@@ -26,7 +26,7 @@ meet-letter-requires c κs =
     let o = c .before .before in
     let s = o .before .before in
     let k = o .loop .inv in
-    ((omega (arith, k .more, k .table .few), (omega arith, k .table .few)), ((tabled-kept (k .kept) (s .pre .1 .0 .0), room-kept (s .pre .1 .0 .1) (k .kept)), (k .table .chain, k .empty)))
+    ((omega (arith, k .more, k .table .few), (omega arith, k .table .few)), ((tabled-kept (k .kept) (s .pre .1 .0 .0), room-kept (s .pre .1 .0 .1) (k .kept)), k .table .chain))
 
 -- the letter is met, of the sets as they stood at first
 met : (g : tie.After-meet-letter Inv-loop μ-loop) → let o = g .before .before .before in let a = o .before .before .args in
@@ -52,16 +52,29 @@ returns c =
     let k = o .loop .inv in
     (turns-kept (m .last .0) (m .result) (p .0) (p .1) (i .loop-test .taken) k (met g), (tt, turns-over (m .last .0) (m .result) (p .0) (p .1) (i .loop-test .taken) k (met g) (c .enum-told .given .1)))
 
+-- the loop's test, before the letter was met
+abbrev taken : tie.After-unmet Inv-loop μ-loop → tie.In-loop Inv-loop μ-loop
+taken u = u .before .before .before .before .before .before .before .before
+
+next-letter-requires : tie.Need-next-letter-requires Inv-loop μ-loop
+next-letter-requires c κs = let i = taken c in (i .loop-test .taken, i .before .before .before .pre .0 .0)
+
+loop-less : tie.Need-loop-less Inv-loop μ-loop
+loop-less c = omega (arith, taken (c .before) .loop-test .taken, c .next-letter .ensures .later)
+
 loop-again : tie.Need-loop-again Inv-loop μ-loop
 loop-again c =
-    let v = c .before .before .more .given in
-    let g = c .before .before .before .before .before .before in
+    let u = c .before in
+    let v = u .before .before .more .given in
+    let g = u .before .before .before .before .before .before in
     let i = g .before .before in
     let o = i .before in
     let s = o .before .before in
     let p = s .pre .0 in
     let a = s .args in
-    turns-more _ _ (p .0) (p .1) (i .loop-test .taken) (o .loop .inv) (met g) (v .0 .0) (c .unmet .result) (v .1) (λ z. empty-sets (a .w .now) (a .acc1) (a .acc2) (a .met1) (a .met2) (o .loop .l) (subst T (c .unmet .ensures) z))
+    let off = empty-sets (a .w .now) (a .acc1) (a .acc2) (a .met1) (a .met2) in
+    turns-next _ _ _ _ _ _ _ _ _ _ (p .0) (turns-more _ _ (p .0) (p .1) (i .loop-test .taken) (o .loop .inv) (met g) (v .0 .0) (u .unmet .result) (v .1) (λ z. off (o .loop .l) (subst T (u .unmet .ensures) z)))
+    (c .next-letter .ensures) (λ j e. off j (neither (a .met1) (a .met2) j e))
 
 same-length-2 : tie.Need-same-length-2 Inv-loop μ-loop
 same-length-2 c = c .before .loop .inv .kept .long
@@ -84,8 +97,8 @@ meet-letters-spec =
     returns
     (λ c. search needs)
     (λ c κs. omega arith)
-    (λ c. omega arith)
-    (λ c. omega arith)
+    next-letter-requires
+    loop-less
     loop-again
     same-length-2
     returns-2)

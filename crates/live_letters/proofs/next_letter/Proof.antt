@@ -1,10 +1,10 @@
--- `live_sets::next_letter` meets its contract: the next letter, the next one that is met, or none.
+-- `live_letters::next_letter` meets its contract: the next letter, the next one that is met, or none.
 use native.Mathlib.Omega.{arith}
 use lib.Count.{trailing-le}
 use Prim.Native.Nat.{_+_, _/_, _^_}
-use Rattle.live_sets.proofs.NextLetters.{met-behind, none-behind, one-behind}
-use Rattle.live_sets.proofs.next_letter.Statement.{statement}
-use Rattle.live_sets.proofs.next_letter.Tie as tie
+use Rattle.live_letters.proofs.NextLetters.{met-behind, none-behind, one-behind}
+use Rattle.live_letters.proofs.next_letter.Statement.{statement}
+use Rattle.live_letters.proofs.next_letter.Tie as tie
 
 returns : tie.Need-returns
 returns c = one-behind _ _ _

@@ -8,7 +8,7 @@ use lib.Dec.{T}
 use lib.Pow.{shr-le}
 use Rattle.word_sets.specs.Sets.{bit}
 use Rattle.word_sets.proofs.Laws.{bit-shift, bit-zero, trailing}
-use Rattle.live_sets.specs.MeetingAll.{NextLetter}
+use Rattle.live_letters.specs.Meeting.{NextLetter}
 
 off : (b : Bool) → ¬ T b → b ≡ false
 off true h = absurd (h tt)
