@@ -1,7 +1,6 @@
 -- ExpandPair: a step from each set of a pair leaves, for each letter, the two sets of the pair behind it.
-use mathlib.Core.Path.{_∙_, _≡_, ap, subst, sym}
+use mathlib.Core.Path.{_≡_}
 use mathlib.Core.Logic.{inl}
-use mathlib.Core.Bool.{Bool}
 use mathlib.Core.List.{List}
 use mathlib.Core.Option.{some}
 use Prim.Native.Nat.{_+_, _<_, _≤_, ℕ}
@@ -23,8 +22,8 @@ use Rattle.word_layout.specs.declared.SetTable.{SetTable}
 use Rattle.live_table.specs.Entries.{Holds, Side, alike, along}
 use Rattle.live_table.specs.SetRows.{leftRow, rightRow}
 use Rattle.live_table.specs.declared.Grown.{Grown}
-use Rattle.live_letters.specs.Meeting.{Behind, Grows, LetterSets, Outcome}
-use Rattle.live_letters.proofs.Laws.{behind-same, set-same}
+use Rattle.live_letters.specs.Meeting.{Grows, LetterSets, Outcome}
+use Rattle.live_letters.proofs.Laws.{behind-same, set-same, step-behind}
 use Rattle.compare_search.specs.Searching.{Both, Ready}
 
 -- what a step from the set u, over a block of w, tells of the sets that it leaves for each letter
@@ -32,13 +31,6 @@ abbrev pub Stepped : (w : List ℕ) (block : Block) (u : List ℕ) (sets : ℕ �
 Stepped w block u sets =
     (letters : ℕ) (arcs : List PlainArc) → Tells letters arcs w block → letters ≤ 64 → εClosedSet (block .count) arcs u → (l : ℕ) → l < letters
     → (view (block .count) (sets l) ≡ byLetter (block .count) arcs (view (block .count) u) l) × εClosedSet (block .count) arcs (sets l)
-
--- of a side with as many configurations, from the live set S
-behind : (s : Side) (S : List Bool) (l : ℕ) (x : List ℕ) {count : ℕ} {u v : List ℕ} → s .size ≡ count → u ≡ v → view (s .size) v ≡ S → εClosedSet (s .size) (s .arcs) v
-    → (εClosedSet count (s .arcs) u → (view count x ≡ byLetter count (s .arcs) (view count u) l) × εClosedSet count (s .arcs) x) → Behind s S l x
-behind s S l x {count} {u} e eu ev wv f =
-    let g = subst (λ (k : ℕ). εClosedSet k (s .arcs) u → (view k x ≡ byLetter k (s .arcs) (view k u) l) × εClosedSet k (s .arcs) x) (sym e) f (subst (λ (y : List ℕ). εClosedSet (s .size) (s .arcs) y) (sym eu) wv) in
-    (g .0 ∙ ap (λ (T : List Bool). byLetter (s .size) (s .arcs) T l) (ap (view (s .size)) eu ∙ ev), g .1)
 
 module _ {a : ℕ} {one two : Block} {w w₁ w₂ u v : List ℕ} (i from met₁ met₂ : ℕ) (ready : Ready a w one two)
     (eu : u ≡ leftRow pairTable w i) (ev : v ≡ rightRow pairTable w i)
@@ -49,8 +41,8 @@ module _ {a : ℕ} {one two : Block} {w w₁ w₂ u v : List ℕ} (i from met₁
   letter-sets s t es e b h p l hl =
       let r = h .each i e p in (
         behind-same s (e .state .left) l (set-same w₁ w₂ firstSets met₁ l (row-below firstSets l k₂ (omega (arith, ready .few))))
-            (behind s (e .state .left) l (setOf w₁ firstSets met₁ l) (b .size₁) eu (r .left) (r .settled₁) (λ x. f₁ a (s .arcs) (b .tells₁) (ready .few) x l hl)),
-        behind t (e .state .right) l (setOf w₂ secondSets met₂ l) (b .size₂) ev (r .right) (r .settled₂)
+            (step-behind s (e .state .left) l (setOf w₁ firstSets met₁ l) (b .size₁) eu (r .left) (r .settled₁) (λ x. f₁ a (s .arcs) (b .tells₁) (ready .few) x l hl)),
+        step-behind t (e .state .right) l (setOf w₂ secondSets met₂ l) (b .size₂) ev (r .right) (r .settled₂)
             (λ x. f₂ a (t .arcs) (tells-kept (block-kept k₁ (inl (omega (arith, ready .second)))) (b .tells₂)) (ready .few) x l hl),
       )
 

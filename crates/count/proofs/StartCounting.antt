@@ -20,13 +20,13 @@ use Rattle.word_layout.specs.Layout.{letterSets, onlyBlock, setTable}
 use Rattle.word_layout.specs.declared.Block.{Block}
 use Rattle.word_layout.specs.declared.SetTable.{SetTable}
 use Rattle.table.specs.Standing.{Stands}
-use Rattle.table.proofs.Laws.{letters-are, stands-kept, stands-many, stands-numbered, stands-steps}
+use Rattle.table.proofs.Laws.{letters-are, stands-many, stands-numbered, stands-steps}
 use Rattle.table_live.specs.Steps.{Outgoing}
 use Rattle.live_table.specs.declared.Grown.{Grown}
 use Rattle.live_table.specs.declared.Grown.the-variants.{TooMany, Total}
 use Rattle.live_letters.specs.Meeting.{Grows}
 use Rattle.live_search.specs.Exploring.{Searchable, SetsOutcome}
-use Rattle.live_building.proofs.Laws.{tabled}
+use Rattle.live_building.proofs.Laws.{only-kept, step-room, tabled}
 use Rattle.count_targets.specs.Counting.{Counting, setsOf}
 
 module _ {file : List ℕ} {c : Counts} {w : List ℕ} {block : Block} (h : Stands file c w block) (only : block .base ≡ onlyBlock) (enough : 8192 ≤ length w) where
@@ -35,7 +35,7 @@ module _ {file : List ℕ} {c : Counts} {w : List ℕ} {block : Block} (h : Stan
 
   pub searchable : Searchable file c w block setTable letterSets
   searchable = record {
-    steps = stands-steps h (record { block = omega arith; rows = omega arith; apart = inr (omega arith) });
+    steps = stands-steps h (step-room only enough);
     one = refl;
     tabled = tabled {w = w} (omega arith);
     above-tables = omega arith;
@@ -63,7 +63,7 @@ module _ {file : List ℕ} {c : Counts} {w : List ℕ} {block : Block} (h : Stan
 
       pub counting : {n : ℕ} → r ≡ Total n → Kept (setTable .rows) (letterSets + 256) w w' → Grows (c .letters) setTable w' 1 r → Counting file c w' block n
       counting {n} e k g = record {
-        stands = stands-kept h (inr (omega arith)) (inr (omega arith)) k;
+        stands = only-kept h only (inr (omega arith)) k;
         only = only;
         enough = omega (arith, k .long);
         rows = (subst (λ (r : Grown). Grows (c .letters) setTable w' 1 r) e g) .1;

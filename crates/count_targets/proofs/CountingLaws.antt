@@ -19,12 +19,12 @@ use Rattle.word_fields.specs.Frame.{Kept}
 use Rattle.word_sets.specs.Sets.{view, εClosedSet}
 use Rattle.word_layout.specs.Layout.{letterSets, offsets, setTable}
 use Rattle.word_layout.specs.declared.Block.{Block}
-use Rattle.table_sets.specs.Stepping.{Room}
-use Rattle.table.proofs.Laws.{letters-are, stands-kept, stands-numbered}
+use Rattle.table.proofs.Laws.{letters-are, stands-numbered}
 use Rattle.live_table.specs.SetRows.{leftRow}
 use Rattle.live_table.proofs.Laws.{left-kept}
 use Rattle.live_letters.proofs.Laws.{table-kept}
-use Rattle.live_building.proofs.Laws.{tabled}
+use Rattle.live_search.proofs.Laws.{sets-same}
+use Rattle.live_building.proofs.Laws.{only-kept, tabled}
 use Rattle.count_targets.specs.Counting.{Counting, setNumbered, setsOf}
 
 some-one : {A : Type 0} {x y : A} → some x ≡ some y → x ≡ y
@@ -39,10 +39,6 @@ module _ {file : List ℕ} {c : Counts} {w : List ℕ} {block : Block} {n : ℕ}
 
   pub counting-letters-few : c .letters ≤ 64
   counting-letters-few = valid-ranges file c (stands-numbered (h .stands) .valid) .letters
-
-  -- a step has room for the sets of the letters behind the table
-  pub counting-room : Room w (block .base) letterSets
-  counting-room = record { block = omega (arith, h .only, h .enough); rows = omega (arith, h .enough); apart = inr (omega (arith, h .only)) }
 
   there : (i : ℕ) → i < n → i < length (setsOf file)
   there i l = subst (λ (m : ℕ). i < m) (sym (h .sets .many)) l
@@ -82,14 +78,9 @@ module _ {file : List ℕ} {c : Counts} {w : List ℕ} {block : Block} {n : ℕ}
       let outside : (hi ≤ setTable .rows) ⊎ (letterSets ≤ lo) = ⊎-elim (λ (x : hi ≤ offsets). inl (omega arith)) (λ (x : letterSets ≤ lo). inr x) beside in
       let there = tabled {w = w} (omega (arith, h .enough)) in
       record {
-        stands = stands-kept (h .stands) (⊎-elim (λ (x : hi ≤ offsets). inl x) (λ (x : letterSets ≤ lo). inr (omega arith)) beside)
-            (⊎-elim (λ (x : hi ≤ offsets). inl (omega (arith, h .only))) (λ (x : letterSets ≤ lo). inr (omega (arith, h .only))) beside) k;
+        stands = only-kept (h .stands) (h .only) (⊎-elim inl (λ (x : letterSets ≤ lo). inr (omega arith)) beside) k;
         only = h .only;
         enough = omega (arith, h .enough, k .long);
         rows = table-kept there k outside (h .rows);
-        sets = record {
-          many = h .sets .many;
-          each = λ i S e. subst (λ (s : List ℕ). (view (block .count) s ≡ S) × εClosedSet (block .count) (plainArcs (automatonOf file) 256) s)
-              (sym (left-kept there k outside i (omega (arith, getElem?-lt (setsOf file) i e, h .sets .many, counting-few)))) (h .sets .each i S e);
-        };
+        sets = sets-same (λ i l. left-kept there k outside i (omega (arith, counting-few))) (h .sets);
       }

@@ -49,13 +49,13 @@ module _ (x : Automaton) (L : ℕ) where
   )
 
   -- ---- which fillings are accepted
-  -- a set behind all places passes the test just if that of a filling does
-  pub filling-passes : (test : List Bool → Bool) (rs : List Range) → T (any test (sets rs)) ↔ ((w : List ℕ) × Fills rs w × T (test (liveSet x L w)))
-  filling-passes test rs = iff-trans (any-iff test (sets rs)) (
+  -- what a test of a word's live set decides of the word holds of a filling just if one of the sets behind all places passes the test
+  filling-iff : (test : List Bool → Bool) (P : List ℕ → Type 0) → ((w : List ℕ) → T (test (liveSet x L w)) ↔ P w) → (rs : List Range) → T (any test (sets rs)) ↔ ((w : List ℕ) × Fills rs w × P w)
+  filling-iff test P decides rs = iff-trans (any-iff test (sets rs)) (
     λ s. let f = led-filled rs (s .0) .0 (filled-iff sameSet sameSet-iff (behind x L) (liveSet x L []) rs (s .0) .0 (s .1)) in
-        (f .word, f .fills, subst (λ (S : List Bool). T (test S)) (sym (f .is)) (s .2)),
+        (f .word, f .fills, decides (f .word) .0 (subst (λ (S : List Bool). T (test S)) (sym (f .is)) (s .2))),
     λ f. let S = liveSet x L (f .0) in
-        (S, filled-iff sameSet sameSet-iff (behind x L) (liveSet x L []) rs S .1 (led-filled rs S .1 (record { word = f .0; fills = f .1; is = refl })), f .2),
+        (S, filled-iff sameSet sameSet-iff (behind x L) (liveSet x L []) rs S .1 (led-filled rs S .1 (record { word = f .0; fills = f .1; is = refl })), decides (f .0) .1 (f .2)),
   )
 
   module _ (fits : length (configurations x L) ≤ L) where
@@ -63,14 +63,11 @@ module _ (x : Automaton) (L : ℕ) where
     pub set-accepts : (w : List ℕ) → T (acceptsSet x L (liveSet x L w)) ↔ Accepts x w
     set-accepts w = subst (λ (S : List Bool). T (acceptsSet x L S) ↔ Accepts x w) (from-start x L w) (led-accepts x L fits [] w)
 
+    set-rejects : (w : List ℕ) → T (not (acceptsSet x L (liveSet x L w))) ↔ (¬ Accepts x w)
+    set-rejects w = iff-trans (not-iff (acceptsSet x L (liveSet x L w))) (λ n a. n (set-accepts w .1 a), λ n t. n (set-accepts w .0 t))
+
     pub filling-accepted : (rs : List Range) → T (any (acceptsSet x L) (sets rs)) ↔ ((w : List ℕ) × Fills rs w × Accepts x w)
-    filling-accepted rs = iff-trans (filling-passes (acceptsSet x L) rs) (
-      λ f. (f .0, f .1, set-accepts (f .0) .0 (f .2)),
-      λ f. (f .0, f .1, set-accepts (f .0) .1 (f .2)),
-    )
+    filling-accepted = filling-iff (acceptsSet x L) (Accepts x) set-accepts
 
     pub filling-rejected : (rs : List Range) → T (any (λ S. not (acceptsSet x L S)) (sets rs)) ↔ ((w : List ℕ) × Fills rs w × (¬ Accepts x w))
-    filling-rejected rs = iff-trans (filling-passes (λ S. not (acceptsSet x L S)) rs) (
-      λ f. (f .0, f .1, λ a. not-iff (acceptsSet x L (liveSet x L (f .0))) .0 (f .2) (set-accepts (f .0) .1 a)),
-      λ f. (f .0, f .1, not-iff (acceptsSet x L (liveSet x L (f .0))) .1 (λ t. f .2 (set-accepts (f .0) .0 t))),
-    )
+    filling-rejected = filling-iff (λ S. not (acceptsSet x L S)) (λ w. ¬ Accepts x w) set-rejects

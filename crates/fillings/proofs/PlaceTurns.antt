@@ -24,7 +24,7 @@ flatMap-at {A} {B} f (y ∷ l) (suc i) {x} e = ap (λ (t : List B). f y ++ t) (f
 
 module _ {Q : Type 0} (same : Q → Q → Bool) where
   -- adding two lists is adding one, then the other
-  pub addAll-append : (l xs ys : List Q) → addAll same l (xs ++ ys) ≡ addAll same (addAll same l xs) ys
+  addAll-append : (l xs ys : List Q) → addAll same l (xs ++ ys) ≡ addAll same (addAll same l xs) ys
   unfolding addAll
   addAll-append l [] ys = refl
   addAll-append l (x ∷ xs) ys = addAll-append (add same l x) xs ys

@@ -1,4 +1,4 @@
--- MeetRow: a row that is met joins the table just if the entry that it stands for joins the list of the exploration.
+-- MeetRow: a row that is met joins the table just if what it stands for joins a list; and so of the entries of an exploration.
 use mathlib.Core.Path.{_∙_, _≡_, ap, subst, sym}
 use mathlib.Core.Logic.{_⊎_, inl, inr, ⊎-elim}
 use mathlib.Core.Bool.{Bool, _||_, true, false}
@@ -63,6 +63,30 @@ dead-more tab w w' u v n from m false true d f (inl o) x =
     record { place = o .place; low = omega (arith, o .many); is = (k .0 ∙ z .0, k .1 ∙ z .1) }
 dead-more tab w w' u v n from m false true d f (inr o) x = let z = f tt in record { place = n; low = omega (arith, o .many); is = (o .added .new .0 ∙ z .0, o .added .new .1 ∙ z .1) }
 dead-more tab w w' u v n from m false false d f o x = absurd x
+
+-- ---- what the rows stand for, whatever that is: `Held w n xs` says that the first n are xs
+-- x is one of these now, or they are more than 512
+abbrev pub Joined : {X : Type 0} (same : X → X → Bool) (Held : List ℕ → ℕ → List X → Type 0) (w : List ℕ) (xs : List X) (x : X) → Grown → Type 0
+Joined same Held w xs x TooMany = 512 < length (add same xs x)
+Joined same Held w xs x (Total k) = Held w k (add same xs x)
+
+module _ {X : Type 0} (same : X → X → Bool) (Held : List ℕ → ℕ → List X → Type 0) {tab : SetTable} {w w' u v : List ℕ} {n from : ℕ} {xs : List X} (x : X) (h : Held w n xs) (many : length xs ≡ n)
+    (lacks-none : Lacking tab w n u v → ¬ T (has same x xs)) (has-old : (place : ℕ) → place < n → RowAt tab w u v place → T (has same x xs))
+    (more : Added tab w w' n u v from → Held w' (n + 1) (xs ++ x ∷ [])) where
+  -- THE LAW. Meeting the row of u and v, which stands for x, is adding x
+  pub met-joins : (r : Grown) → Met tab w w' n u v from r → Joined same Held w' xs x r
+  met-joins TooMany m = ⊎-elim
+      (λ c. absurd (lacks-none (m .lacks) (c .0)))
+      (λ c. omega (arith, ap length (c .1), length-append xs (x ∷ []), many, m .many))
+      (add-cases same xs x)
+  met-joins (Total k) (inl o) = ⊎-elim
+      (λ c. rw (c .1, o .many, o .same) h)
+      (λ c. absurd (c .0 (has-old (o .place) (o .low) (o .is))))
+      (add-cases same xs x)
+  met-joins (Total k) (inr o) = ⊎-elim
+      (λ c. absurd (lacks-none (o .lacks) (c .0)))
+      (λ c. rw (c .1, o .many) (more (o .added)))
+      (add-cases same xs x)
 
 -- ---- what the words stand for
 -- equal views, of sets of numbers below n, have the same members
@@ -132,17 +156,10 @@ module _ (tab : SetTable) (s t : Side) (w : List ℕ) (n : ℕ) (u v : List ℕ)
             let k : j ≡ n = omega (arith, getElem?-lt more j g, length-append es (x ∷ []), h .many, b .0) in
             subst (λ (j : ℕ). Row tab s t w' more j f) (sym k) (subst (λ (f : Entry Pair). Row tab s t w' more n f) (sym (b .1)) new)
 
+    joins : (r : Grown) → Met tab w w' n u v (i * 64 + l) r → Joined alike (Holds tab s t) w' es x r
+    joins = met-joins alike (Holds tab s t) x h (h .many) lacks-none has-old holds-more
+
     -- THE LAW. Meeting the row is adding its entry
     pub met : (r : Grown) → Met tab w w' n u v (i * 64 + l) r → Outcome 512 tab s t w' (add alike es x) r
-    met TooMany m = ⊎-elim
-        (λ c. absurd (lacks-none (m .lacks) (c .0)))
-        (λ c. omega (arith, ap (λ (l : List (Entry Pair)). length l) (c .1), length-append es (x ∷ []), h .many, m .many))
-        (add-cases alike es x)
-    met (Total k) (inl o) = ⊎-elim
-        (λ c. subst (λ (l : List (Entry Pair)). Holds tab s t w' k l) (sym (c .1)) (subst (λ (k : ℕ). Holds tab s t w' k es) (sym (o .many)) (subst (λ (w : List ℕ). Holds tab s t w n es) (sym (o .same)) h)))
-        (λ c. absurd (c .0 (has-old (o .place) (o .low) (o .is))))
-        (add-cases alike es x)
-    met (Total k) (inr o) = ⊎-elim
-        (λ c. absurd (lacks-none (o .lacks) (c .0)))
-        (λ c. subst (λ (l : List (Entry Pair)). Holds tab s t w' k l) (sym (c .1)) (subst (λ (k : ℕ). Holds tab s t w' k more) (sym (o .many)) (holds-more (o .added))))
-        (add-cases alike es x)
+    met TooMany m = joins TooMany m
+    met (Total k) m = joins (Total k) m

@@ -27,9 +27,10 @@ module _ (met l : ℕ) (dead : Bool) where
   one-behind = record { later = omega arith; between = λ j a b. absurd (omega arith) }
 
   -- no letter behind l is met before `end`
-  pub none-behind : (end : ℕ) → not dead ≡ false → l < end → ((l + 1 < end) → met / 2 ^ (l + 1) ≡ 0) → NextLetter met dead l end
+  pub none-behind : (end : ℕ) → not dead ≡ false → l < end → (l + 1 < end → met / 2 ^ (l + 1) ≡ 0) → NextLetter met dead l end
   none-behind end d h z = record { later = h; between = λ j a b. (is-so dead d, in-rest met (l + 1) j (omega arith) ∙ ap (λ (x : ℕ). bit x (j - (l + 1))) (z (omega arith)) ∙ bit-zero (j - (l + 1))) }
 
+  -- the next that is met is a digit 1 of the rest
   pub met-behind : not dead ≡ false → met < 2 ^ 64 → ¬ (met / 2 ^ (l + 1) ≡ 0) → NextLetter met dead l (l + 1 + trailingZeros 64 (met / 2 ^ (l + 1)))
   met-behind d f z =
       let p = trailing 64 (met / 2 ^ (l + 1)) (omega (arith, shr-le met (l + 1), f)) z in

@@ -1,4 +1,5 @@
--- TableFrames: what is written beside a table leaves its entries as they are, and what is written into it leaves the sets of the letters.
+-- TableFrames: what is written beside a table leaves its entries as they are, and what is written into it leaves the sets of the letters, which are
+-- those behind them.
 use mathlib.Core.Path.{_∙_, _≡_, ap, ap₂, subst, sym}
 use mathlib.Core.Logic.{inl, inr, ⊎-elim}
 use mathlib.Core.Bool.{Bool, cond}
@@ -6,6 +7,7 @@ use mathlib.Core.List.{List, [], _++_, _∷_}
 use Prim.Native.Nat.{_%_, _/_, _<_, _≤_, ℕ}
 use native.Mathlib.Omega.{arith}
 use lib.ListN.{getElem?}
+use Rattle.automata.specs.Live.{byLetter}
 use Rattle.automata.specs.Pairs.{Pair}
 use Rattle.automata.specs.Search.{Entry}
 use Rattle.automata.proofs.Laws.{getElem?-lt}
@@ -29,6 +31,13 @@ set-same w w' acc met l e = ap (λ (x : List ℕ). cond (bit met l) x (0 ∷ 0 �
 
 pub behind-same : (s : Side) (S : List Bool) (l : ℕ) {u v : List ℕ} → v ≡ u → Behind s S l u → Behind s S l v
 behind-same s S l e b = (ap (view (s .size)) e ∙ b .0, subst (λ (x : List ℕ). εClosedSet (s .size) (s .arcs) x) (sym e) (b .1))
+
+-- a step from u, in a block with as many configurations as the side has, leaves x for letter l: where u is S, that is the set behind it
+pub step-behind : (s : Side) (S : List Bool) (l : ℕ) (x : List ℕ) {count : ℕ} {u v : List ℕ} → s .size ≡ count → u ≡ v → view (s .size) v ≡ S → εClosedSet (s .size) (s .arcs) v
+    → (εClosedSet count (s .arcs) u → (view count x ≡ byLetter count (s .arcs) (view count u) l) × εClosedSet count (s .arcs) x) → Behind s S l x
+step-behind s S l x {count} {u} e eu ev wv f =
+    let g = subst (λ (k : ℕ). εClosedSet k (s .arcs) u → (view k x ≡ byLetter k (s .arcs) (view k u) l) × εClosedSet k (s .arcs) x) (sym e) f (subst (λ (y : List ℕ). εClosedSet (s .size) (s .arcs) y) (sym eu) wv) in
+    (g .0 ∙ ap (λ (T : List Bool). byLetter (s .size) (s .arcs) T l) (ap (view (s .size)) eu ∙ ev), g .1)
 
 module _ {tab : SetTable} {w : List ℕ} {acc₁ acc₂ met₁ met₂ : ℕ} (room : LetterRoom tab w acc₁ acc₂ met₁ met₂) where
   -- a row can hold the two sets of a letter

@@ -1,7 +1,6 @@
 -- ExpandSet: a step from the set of a row leaves, for each letter, the set behind it, which is both sets of the pair behind that letter. Met for
 -- all letters in their order, these are the entries that one letter more leads to.
 use mathlib.Core.Path.{_∙_, _≡_, ap, subst, sym}
-use mathlib.Core.Bool.{Bool}
 use mathlib.Core.List.{List, map}
 use mathlib.Core.Option.{some}
 use Prim.Native.Nat.{_-_, _<_, _≤_, ℕ}
@@ -22,6 +21,7 @@ use Rattle.live_table.specs.Entries.{Holds, Side, alike, along, onEntry}
 use Rattle.live_table.specs.SetRows.{leftRow}
 use Rattle.live_table.specs.declared.Grown.{Grown}
 use Rattle.live_letters.specs.Meeting.{Behind, Grows, Outcome, Table}
+use Rattle.live_letters.proofs.Laws.{step-behind}
 use Rattle.live_sets.specs.MeetingAll.{MetAll}
 use Rattle.live_sets.proofs.Laws.{met-all-entries, met-all-table, same-row}
 use Rattle.live_search.specs.Exploring.{Twins}
@@ -38,12 +38,10 @@ module _ {file : List ℕ} {c : Counts} {w : List ℕ} {block : Block} {tab : Se
       → (l : ℕ) → l < c .letters → Behind x (e .state .left) l (sets l) × Behind y (e .state .right) l (sets l)
   letters-behind x y es e b h p l hl =
       let r = h .each i e p in
-      let h₁ : view (x .size) u ≡ e .state .left = ap (view (x .size)) eu ∙ r .left in
-      let h₂ : view (y .size) u ≡ e .state .right = ap (view (y .size)) (eu ∙ sym (same-row tab one w i)) ∙ r .right in
-      let k = subst (λ (k : ℕ). εClosedSet k (x .arcs) u → (view k (sets l) ≡ byLetter k (x .arcs) (view k u) l) × εClosedSet k (x .arcs) (sets l)) (sym (b .size)) (λ z. f (x .arcs) (b .told) z l hl)
-      (subst (λ (v : List ℕ). εClosedSet (x .size) (x .arcs) v) (sym eu) (r .settled₁)) in
-      let first : (S : List Bool) → view (x .size) u ≡ S → Behind x S l (sets l) = λ S q. (k .0 ∙ ap (λ (S : List Bool). byLetter (x .size) (x .arcs) S l) q, k .1) in
-      (first (e .state .left) h₁, subst (λ (z : Side). view (z .size) u ≡ e .state .right → Behind z (e .state .right) l (sets l)) (sym (b .twin)) (first (e .state .right)) h₂)
+      let told = subst (λ (z : Side). Outgoing file c w block (z .arcs)) (sym (b .twin)) (b .told) in (
+        step-behind x (e .state .left) l (sets l) (b .size) eu (r .left) (r .settled₁) (λ z. f (x .arcs) (b .told) z l hl),
+        step-behind y (e .state .right) l (sets l) (ap (λ (z : Side). z .size) (b .twin) ∙ b .size) (eu ∙ sym (same-row tab one w i)) (r .right) (r .settled₂) (λ z. f (y .arcs) told z l hl),
+      )
 
 -- all letters are met, in their order
 module _ {a : ℕ} (ha : a ≤ 64) (tab : SetTable) (sets : ℕ → List ℕ) (i : ℕ) (w : List ℕ) (n : ℕ) (w' : List ℕ) (r : Grown) (m : MetAll tab sets i (countFrom 0 (a - 0)) w n w' r) where

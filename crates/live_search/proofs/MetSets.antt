@@ -1,6 +1,6 @@
 -- MetSets: a set that is met in a table with one set to a row joins the list of the sets that stand there, just if that list lacks it.
 use mathlib.Core.Path.{_∙_, _≡_, ap, subst, sym}
-use mathlib.Core.Logic.{_⊎_, inl, inr, ⊎-elim}
+use mathlib.Core.Logic.{_⊎_, inl, inr}
 use mathlib.Core.Bool.{Bool}
 use mathlib.Core.List.{List, [], _++_, _∷_, map}
 use mathlib.Core.Option.{some}
@@ -12,23 +12,23 @@ use Rattle.automata.specs.Exploration.{add, addAll, has}
 use Rattle.automata.specs.Lists.{Each}
 use Rattle.automata.specs.Live.{PlainArc}
 use Rattle.automata.specs.LiveSets.{sameSet}
-use Rattle.automata.proofs.Laws.{add-cases, addAll-length, at-mem, getElem?-lt, getElem?-some, has-iff, mem-at, sameSet-iff, snoc-at-cases}
+use Rattle.automata.proofs.Laws.{addAll-length, at-mem, getElem?-lt, getElem?-some, has-iff, mem-at, sameSet-iff, snoc-at-cases}
 use Rattle.word_sets.specs.Sets.{inSet, view, εClosedSet}
 use Rattle.word_layout.specs.declared.SetTable.{SetTable}
-use Rattle.live_table.specs.SetRows.{Added, Lacking, Met, leftRow}
+use Rattle.live_table.specs.SetRows.{Added, Lacking, Met, RowAt, leftRow}
 use Rattle.live_table.specs.declared.Grown.{Grown}
 use Rattle.live_table.specs.declared.Grown.the-variants.{TooMany, Total}
-use Rattle.live_letters.proofs.Laws.{same-members}
+use Rattle.live_letters.proofs.Laws.{Joined, met-joins, same-members}
 use Rattle.live_sets.specs.MeetingAll.{MetAll}
 use Rattle.live_sets.proofs.Laws.{met-all, same-row}
 use Rattle.live_search.specs.Exploring.{Sets, SetsOutcome}
 
 module _ (count : ℕ) (arcs : List PlainArc) (tab : SetTable) (one : tab .sets ≡ 1) where
-  -- row i of the table is the set S, which no empty move leaves
-  abbrev Is : List ℕ → ℕ → List Bool → Type 0
-  Is w i S = (view count (leftRow tab w i) ≡ S) × εClosedSet count arcs (leftRow tab w i)
+  -- u is the set S, which no empty move leaves
+  abbrev Is : List ℕ → List Bool → Type 0
+  Is u S = (view count u ≡ S) × εClosedSet count arcs u
 
-  module _ (w : List ℕ) (n : ℕ) (u : List ℕ) (known : List (List Bool)) (S : List Bool) (h : Sets count arcs tab w n known) (p : (view count u ≡ S) × εClosedSet count arcs u) where
+  module _ (w : List ℕ) (n : ℕ) (u : List ℕ) (known : List (List Bool)) (S : List Bool) (h : Sets count arcs tab w n known) (p : Is u S) where
     lacks-none : Lacking tab w n u u → ¬ T (has sameSet S known)
     lacks-none k c =
         let y = (has-iff sameSet S known) .0 c in
@@ -37,11 +37,11 @@ module _ (count : ℕ) (arcs : List PlainArc) (tab : SetTable) (one : tab .sets 
         let same = same-members (leftRow tab w (m .0)) u (r .1 .0) (p .1 .0) (r .0 ∙ sym ((sameSet-iff S (y .0)) .0 (y .2)) ∙ sym (p .0)) in
         k (m .0) (omega (arith, getElem?-lt known (m .0) (m .1), h .many)) same (λ j. ap (λ (v : List ℕ). inSet v j) (same-row tab one w (m .0)) ∙ same j)
 
-    has-old : (place : ℕ) → place < n → leftRow tab w place ≡ u → T (has sameSet S known)
+    has-old : (place : ℕ) → place < n → RowAt tab w u u place → T (has sameSet S known)
     has-old place l at =
         let y = getElem?-some known place (omega (arith, h .many)) in
         let r = h .each place (y .0) (y .1) in
-        (has-iff sameSet S known) .1 (y .0, at-mem known place (y .1), (sameSet-iff S (y .0)) .1 (sym (p .0) ∙ ap (view count) (sym at) ∙ r .0))
+        (has-iff sameSet S known) .1 (y .0, at-mem known place (y .1), (sameSet-iff S (y .0)) .1 (sym (p .0) ∙ ap (view count) (sym (at .0)) ∙ r .0))
 
     module _ (w' : List ℕ) (from : ℕ) where
       abbrev more : List (List Bool)
@@ -50,29 +50,19 @@ module _ (count : ℕ) (arcs : List PlainArc) (tab : SetTable) (one : tab .sets 
       sets-more : Added tab w w' n u u from → Sets count arcs tab w' (n + 1) more
       sets-more d = record { many = length-append known (S ∷ []) ∙ omega (arith, h .many); each = λ j R g. go j R g (snoc-at-cases known S j g) }
         where
-          as-row : (i : ℕ) (v : List ℕ) (R : List Bool) → leftRow tab w' i ≡ v → (view count v ≡ R) × εClosedSet count arcs v → Is w' i R
-          as-row i v R e b = subst (λ (v : List ℕ). (view count v ≡ R) × εClosedSet count arcs v) (sym e) b
-
-          go : (j : ℕ) (R : List Bool) → getElem? more j ≡ some R → (getElem? known j ≡ some R) ⊎ ((length known ≤ j) × (R ≡ S)) → Is w' j R
-          go j R g (inl b) = as-row j (leftRow tab w j) R (d .old j (omega (arith, getElem?-lt known j b, h .many)) .0) (h .each j R b)
+          go : (j : ℕ) (R : List Bool) → getElem? more j ≡ some R → (getElem? known j ≡ some R) ⊎ ((length known ≤ j) × (R ≡ S)) → Is (leftRow tab w' j) R
+          go j R g (inl b) = subst (λ (v : List ℕ). Is v R) (sym (d .old j (omega (arith, getElem?-lt known j b, h .many)) .0)) (h .each j R b)
           go j R g (inr b) =
               let k : j ≡ n = omega (arith, getElem?-lt more j g, length-append known (S ∷ []), h .many, b .0) in
-              as-row j u R (ap (leftRow tab w') k ∙ d .new .0) (p .0 ∙ sym (b .1), p .1)
+              subst (λ (v : List ℕ). Is v R) (sym (ap (leftRow tab w') k ∙ d .new .0)) (p .0 ∙ sym (b .1), p .1)
+
+      joins : (r : Grown) → Met tab w w' n u u from r → Joined sameSet (Sets count arcs tab) w' known S r
+      joins = met-joins sameSet (Sets count arcs tab) S h (h .many) lacks-none has-old sets-more
 
       -- meeting the set is adding it
       set-met : (r : Grown) → Met tab w w' n u u from r → SetsOutcome 512 count arcs tab w' (add sameSet known S) r
-      set-met TooMany m = ⊎-elim
-          (λ c. absurd (lacks-none (m .lacks) (c .0)))
-          (λ c. omega (arith, ap (λ (l : List (List Bool)). length l) (c .1), length-append known (S ∷ []), h .many, m .many))
-          (add-cases sameSet known S)
-      set-met (Total k) (inl o) = ⊎-elim
-          (λ c. subst (λ (l : List (List Bool)). Sets count arcs tab w' k l) (sym (c .1)) (subst (λ (k : ℕ). Sets count arcs tab w' k known) (sym (o .many)) (subst (λ (w : List ℕ). Sets count arcs tab w n known) (sym (o .same)) h)))
-          (λ c. absurd (c .0 (has-old (o .place) (o .low) (o .is .0))))
-          (add-cases sameSet known S)
-      set-met (Total k) (inr o) = ⊎-elim
-          (λ c. absurd (lacks-none (o .lacks) (c .0)))
-          (λ c. subst (λ (l : List (List Bool)). Sets count arcs tab w' k l) (sym (c .1)) (subst (λ (k : ℕ). Sets count arcs tab w' k more) (sym (o .many)) (sets-more (o .added))))
-          (add-cases sameSet known S)
+      set-met TooMany m = joins TooMany m
+      set-met (Total k) m = joins (Total k) m
 
 -- THE LAW. The sets of the letters that are met join the list, in their order
 pub met-all-sets : {count : ℕ} {arcs : List PlainArc} {t : SetTable} {w : List ℕ} {n : ℕ} (sets : ℕ → List ℕ) (i : ℕ) (letters w' : List ℕ) (r : Grown) (δ : ℕ → List Bool) (known : List (List Bool))

@@ -14,7 +14,7 @@ use Rattle.word_fields.proofs.Laws.{kept-same, kept-then}
 use Rattle.word_sets.specs.Sets.{bit}
 use Rattle.word_layout.specs.Layout.{tableEnd}
 use Rattle.word_layout.specs.declared.SetTable.{SetTable}
-use Rattle.live_table.specs.SetRows.{Met, RowChain}
+use Rattle.live_table.specs.SetRows.{Met, Old, RowChain}
 use Rattle.live_table.specs.declared.Grown.{Grown}
 use Rattle.live_table.specs.declared.Grown.the-variants.{TooMany, Total}
 use Rattle.live_letters.specs.Meeting.{EmptyRow, NextLetter}
@@ -47,23 +47,22 @@ none-left : (l end : ℕ) → end ≤ l → countFrom l (end - l) ≡ []
 unfolding countFrom
 none-left l end h = let c : end - l ≡ 0 = omega arith in rw c
 
--- letters that lead to the empty set, whose row is known, change nothing
-module _ (tab : SetTable) (sets : ℕ → List ℕ) (i end : ℕ) (w : List ℕ) (n : ℕ) (known : EmptyRow tab w n) (v : List ℕ) (g : Grown) where
+-- letters that lead to a row that is known change nothing
+module _ (tab : SetTable) (sets : ℕ → List ℕ) (i end : ℕ) (w : List ℕ) (n : ℕ) (v : List ℕ) (g : Grown) where
   abbrev Rest : ℕ → Type 0
   Rest l = MetAll tab sets i (countFrom l (end - l)) w n v g
 
-  one-over : (l : ℕ) → sets l ≡ 0 ∷ 0 ∷ 0 ∷ 0 ∷ [] → Rest (l + 1) → Dec (l < end) → Rest l
+  one-over : (l : ℕ) → Old tab w w n n (sets l) (sets l) → Rest (l + 1) → Dec (l < end) → Rest l
   unfolding MetAll
-  one-over l z x (yes h) =
-      subst (λ (letters : List ℕ). MetAll tab sets i letters w n v g) (these l end h)
-      (inr (w, n, inl (skipped known (z, z)), x))
-  one-over l z x (no h) = subst (λ (letters : List ℕ). MetAll tab sets i letters w n v g) (none-left (l + 1) end (omega arith) ∙ sym (none-left l end (omega arith))) x
+  one-over l o x (yes h) =
+      subst (λ (letters : List ℕ). MetAll tab sets i letters w n v g) (these l end h) (inr (w, n, inl o, x))
+  one-over l o x (no h) = subst (λ (letters : List ℕ). MetAll tab sets i letters w n v g) (none-left (l + 1) end (omega arith) ∙ sym (none-left l end (omega arith))) x
 
-  passed-over : (d l : ℕ) → ((j : ℕ) → l ≤ j → j < l + d → sets j ≡ 0 ∷ 0 ∷ 0 ∷ 0 ∷ []) → Rest (l + d) → Rest l
-  passed-over zero l off x = let e : l + 0 ≡ l = omega arith in subst Rest e x
-  passed-over (suc d) l off x =
+  passed-over : (d l : ℕ) → ((j : ℕ) → l ≤ j → j < l + d → Old tab w w n n (sets j) (sets j)) → Rest (l + d) → Rest l
+  passed-over zero l old x = let e : l + 0 ≡ l = omega arith in subst Rest e x
+  passed-over (suc d) l old x =
       let e : l + suc d ≡ l + 1 + d = omega arith in
-      one-over l (off l (omega arith) (omega arith)) (passed-over d (l + 1) (λ j a b. off j (omega arith) (omega arith)) (subst Rest e x)) (decLt l end)
+      one-over l (old l (omega arith) (omega arith)) (passed-over d (l + 1) (λ j a b. old j (omega arith) (omega arith)) (subst Rest e x)) (decLt l end)
 
 module _ {tab : SetTable} {sets : ℕ → List ℕ} {i low end from : ℕ} {w₀ w : List ℕ} {n : ℕ} {dead : Bool} {l : ℕ} (w' : List ℕ) (r : Grown) (hl : l < end)
     (k : Turns tab sets i low end from w₀ w n dead l) (x : Met tab w w' n (sets l) (sets l) (i * 64 + l) r) where
@@ -77,32 +76,22 @@ module _ {tab : SetTable} {sets : ℕ → List ℕ} {i low end from : ℕ} {w₀
   turns-kept = kept-then (k .kept) (met-kept tab w w' (sets l) (sets l) n (i * 64 + l) r x)
 
   module _ {met : ℕ} (off : (j : ℕ) → bit met j ≡ false → sets j ≡ 0 ∷ 0 ∷ 0 ∷ 0 ∷ []) where
-    pub turns-more : (m next : ℕ) (none : Bool) → r ≡ Total m → (T none → (sets l ≡ 0 ∷ 0 ∷ 0 ∷ 0 ∷ []) × (sets l ≡ 0 ∷ 0 ∷ 0 ∷ 0 ∷ [])) → NextLetter met (dead || none) l next → Turns tab sets i low end from w₀ w' m (dead || none) next
+    pub turns-more : (m next : ℕ) (none : Bool) → r ≡ Total m → (T none → sets l ≡ 0 ∷ 0 ∷ 0 ∷ 0 ∷ []) → NextLetter met (dead || none) l next → Turns tab sets i low end from w₀ w' m (dead || none) next
     unfolding MetAll
-    turns-more m next none e f x' =
+    turns-more m next none e f q =
         let y : At (Total m) = subst At e x in
-        let g = met-rows tab w w' (sets l) (sets l) n n (i * 64 + l) (Total m) (omega arith, (k .few, k .chain)) y in
-        let empty = dead-more tab w w' (sets l) (sets l) n (i * 64 + l) m dead none (k .empty) f y in
+        let g = met-rows tab w w' (sets l) (sets l) n (i * 64 + l) (Total m) (k .few, k .chain) y in
+        let empty = dead-more tab w w' (sets l) (sets l) n (i * 64 + l) m dead none (k .empty) (λ t. (f t, f t)) y in
+        let there : next ≡ l + 1 + (next - (l + 1)) = omega (arith, q .later) in
+        let old : (j : ℕ) → l + 1 ≤ j → j < l + 1 + (next - (l + 1)) → Old tab w' w' m m (sets j) (sets j) =
+        λ j a b. let o = q .between j (omega arith) (omega arith) in let z = off j (o .1) in skipped (empty (o .0)) (z, z) in
         record {
           kept = turns-kept;
-          few = g .1 .0;
-          chain = g .1 .1;
+          few = g .0;
+          chain = g .1;
           empty = empty;
-          going = λ v g z. from-here v g (inr (w', m, y, behind empty x' v g z));
+          going = λ v g z. from-here v g (inr (w', m, y, passed-over tab sets i end w' m v g (next - (l + 1)) (l + 1) old (subst (Rest tab sets i end w' m v g) there z)));
         }
-      where
-        behind : (T (dead || none) → EmptyRow tab w' m) → NextLetter met (dead || none) l next → (v : List ℕ) (g : Grown) → MetAll tab sets i (countFrom next (end - next)) w' m v g
-            → MetAll tab sets i (countFrom (l + 1) (end - (l + 1))) w' m v g
-        behind empty q v g z = go (decLt (l + 1) next)
-          where
-            to : ℕ → Type 0
-            to p = MetAll tab sets i (countFrom p (end - p)) w' m v g
-
-            go : Dec (l + 1 < next) → to (l + 1)
-            go (yes h) =
-                let e : next ≡ l + 1 + (next - (l + 1)) = omega arith in
-                passed-over tab sets i end w' m (empty (q .between (l + 1) (omega arith) h .0)) v g (next - (l + 1)) (l + 1) (λ j a c. off j (q .between j (omega arith) (omega arith) .1)) (subst to e z)
-            go (no h) = let e : next ≡ l + 1 = omega (arith, q .later) in subst to e z
 
   pub turns-over : r ≡ TooMany → Whole tab sets i low end from w₀ w' TooMany
   unfolding MetAll

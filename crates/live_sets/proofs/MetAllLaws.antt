@@ -41,27 +41,25 @@ module _ {X : Type 0} (same : X → X → Bool) (f : ℕ → X) (t : SetTable) (
   met-all (l ∷ letters) w n w' r xs g h (inr (v, k, m, z)) = met-all letters v k w' r (add same xs (f l)) (g .1) (one xs l w v n (Total k) (g .0) h m) z
 
 -- ---- of the words alone, whatever the list
--- the rows are no fewer than n, and can be found, unless there are too many
-abbrev pub Findable : SetTable → ℕ → List ℕ → Grown → Type 0
-Findable t n w TooMany = Unit {0}
-Findable t n w (Total m) = (n ≤ m) × ((m ≤ 512) × RowChain t w m)
+-- the rows can be found, unless there are too many
+abbrev pub Findable : SetTable → List ℕ → Grown → Type 0
+Findable t w TooMany = Unit {0}
+Findable t w (Total n) = (n ≤ 512) × RowChain t w n
 
-pub met-rows : (t : SetTable) (w w' u v : List ℕ) (n₀ n from : ℕ) (r : Grown) → Findable t n₀ w (Total n) → Met t w w' n u v from r → Findable t n₀ w' r
-met-rows t w w' u v n₀ n from TooMany k m = tt
-met-rows t w w' u v n₀ n from (Total m) k (inl o) =
-    subst (λ (m : ℕ). Findable t n₀ w' (Total m)) (sym (o .many)) (subst (λ (x : List ℕ). Findable t n₀ x (Total n)) (sym (o .same)) k)
-met-rows t w w' u v n₀ n from (Total m) k (inr o) =
-    subst (λ (m : ℕ). Findable t n₀ w' (Total m)) (sym (o .many)) (omega (arith, k .0), (omega (arith, o .room), o .added .chain))
+pub met-rows : (t : SetTable) (w w' u v : List ℕ) (n from : ℕ) (r : Grown) → Findable t w (Total n) → Met t w w' n u v from r → Findable t w' r
+met-rows t w w' u v n from TooMany k m = tt
+met-rows t w w' u v n from (Total m) k (inl o) = rw (o .many, o .same) k
+met-rows t w w' u v n from (Total m) k (inr o) = rw (o .many) (omega (arith, o .room), o .added .chain)
 
 grows-from : (a : ℕ) (t : SetTable) (w : List ℕ) (n₀ n : ℕ) (r : Grown) → n₀ ≤ n → Grows a t w n r → Grows a t w n₀ r
 grows-from a t w n₀ n TooMany h g = tt
 grows-from a t w n₀ n (Total m) h g = (omega (arith, g .0), g .1)
 
 module _ (t : SetTable) (sets : ℕ → List ℕ) (i : ℕ) (letters w : List ℕ) (n : ℕ) (w' : List ℕ) where
-  pub met-all-rows : (m : ℕ) → MetAll t sets i letters w n w' (Total m) → n ≤ 512 → RowChain t w n → (n ≤ m) × ((m ≤ 512) × RowChain t w' m)
+  pub met-all-rows : (m : ℕ) → MetAll t sets i letters w n w' (Total m) → n ≤ 512 → RowChain t w n → (m ≤ 512) × RowChain t w' m
   met-all-rows m z few chain =
-      met-all {X = ℕ} eqb (λ l. l) t sets i (λ _ v r. Findable t n v r) (λ _. Unit {0}) (λ _ l v v' k r _ h x. met-rows t v v' (sets l) (sets l) n k (i * 64 + l) r h x) (λ _ _ _ h. h)
-      letters w n w' (Total m) [] (mem-each letters (λ _ _. tt)) (omega arith, (few, chain)) z
+      met-all {X = ℕ} eqb (λ l. l) t sets i (λ _ v r. Findable t v r) (λ _. Unit {0}) (λ _ l v v' k r _ h x. met-rows t v v' (sets l) (sets l) k (i * 64 + l) r h x) (λ _ _ _ h. h)
+      letters w n w' (Total m) [] (mem-each letters (λ _ _. tt)) (few, chain) z
 
   pub met-all-table : {a : ℕ} (r : Grown) → a ≤ 64 → i < n → Each (λ l. l < a) letters → Table a t w n → MetAll t sets i letters w n w' r → Grows a t w' n r
   met-all-table {a} r ha hi below h z =

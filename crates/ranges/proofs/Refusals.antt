@@ -33,6 +33,7 @@ module _ (file bytes : List ℕ) (words : ℕ) where
   unfolding rangedOf rangedWithin refusals unlessRefused
   call-fault {n} enough e = ap (λ (m : ℕ). Refused m 1) (ap numberOf e) ∙ rw (le-ltb words 8192 enough, lt-ltb 0 (faultOf file) (has-fault file n (sym e)))
 
+  -- by any limits, which stay as they are while the tests are passed
   valid-within : (L P : ℕ) → 8192 ≤ words → faultOf file ≤ 0 → limitsAnswer L P (automatonOf file) bytes ≡ rangedWithin L P file bytes words
   unfolding rangedWithin refusals limitsAnswer unlessRefused
   valid-within L P enough none = rw (le-ltb words 8192 enough, le-ltb 0 (faultOf file) none)

@@ -44,14 +44,15 @@ empty-live : (x : Automaton) (L : ℕ) → liveSet x L [] ≡ live (length (conf
 unfolding liveSet
 empty-live x L = refl
 
-module _ {file : List ℕ} {c : Counts} {w : List ℕ} {block : Block} (h : Stands file c w block) where
+module _ (file : List ℕ) where
   abbrev x : Automaton
   x = automatonOf file
 
   -- the live set of the empty word, in row 0, stands before the first place
-  pub first-set : {start w' : List ℕ} → (view (block .count) start ≡ live (block .count) (plainArcs x 256) []) × εClosedSet (block .count) (plainArcs x 256) start → row w' 0 0 ≡ start
+  pub first-set : {c : Counts} {w start w' : List ℕ} {block : Block} → Stands file c w block
+      → (view (block .count) start ≡ live (block .count) (plainArcs x 256) []) × εClosedSet (block .count) (plainArcs x 256) start → row w' 0 0 ≡ start
       → SetsIn file beforeTable w' 1 (liveSet x 256 [] ∷ [])
-  first-set {start} f e =
+  first-set {start = start} h f e =
       let g = subst (λ (m : ℕ). (view m start ≡ live m (plainArcs x 256) []) × εClosedSet m (plainArcs x 256) start) (stands-many h) f in
       start-sets file start e (g .0 ∙ sym (empty-live x 256), g .1)
 
@@ -69,10 +70,10 @@ module _ {file : List ℕ} {c : Counts} {w : List ℕ} {block : Block} (h : Stan
       walked-few = walked .1 .0
 
       -- the word is judged by the live sets behind the last place
-      pub walked-judged : (finals : List ℕ) {a : Ranged} → view (block .count) finals ≡ finalSet x (configurations x 256)
+      pub walked-judged : {c : Counts} {w : List ℕ} {block : Block} (finals : List ℕ) {a : Ranged} → Stands file c w block → view (block .count) finals ≡ finalSet x (configurations x 256)
           → ((count : ℕ) (arcs : List PlainArc) (sets : List (List Bool)) → Sets count arcs beforeTable w' n sets → a ≡ judged (any (λ S. meets S (view count finals)) sets) (any (λ S. not (meets S (view count finals))) sets))
           → a ≡ setsAnswer 256 512 x places
-      walked-judged finals final judges =
+      walked-judged finals h final judges =
           let here = subst (λ (m : ℕ). view m finals ≡ finalSet x (configurations x 256)) (stands-many h) final in
           let held = subst (SetsIn file beforeTable w' n) (sym (filled-are 256 x places)) (walked .1 .1) in
           sets-judged 256 512 x places (many-are 256 512 x places ∙ walked .0) here (judges (length (configurations x 256)) (plainArcs x 256) (filledSets 256 x places) held)

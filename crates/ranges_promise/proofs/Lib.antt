@@ -1,6 +1,4 @@
-pub mod ByTwos
 pub mod Refusals
 pub mod Promise
 pub mod Settled
 pub mod Examples
-pub mod Laws

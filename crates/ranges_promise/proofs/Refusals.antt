@@ -44,7 +44,7 @@ bad-cases a low high s = (
       (λ h. ⊎-elim (λ (e : h .0 ≡ fromTo low high). inl (subst (Bad a) e (h .2))) (λ (m : List·Memᴰ (h .0) (rangesOf s)). inr (inr (h .0, m, h .2))) (List·Memᴰ·cases-cons (h .1))),
 )
 
-pub bad-iff : (a : ℕ) (bytes : List ℕ) → T (badRanges a bytes) ↔ BadRanges a bytes
+bad-iff : (a : ℕ) (bytes : List ℕ) → T (badRanges a bytes) ↔ BadRanges a bytes
 unfolding badRanges rangesOf
 bad-iff a [] = (λ t. absurd t, ⊎-elim (λ odd. absurd (omega arith)) (λ h. absurd (List·Memᴰ·not-nil (h .1))))
 bad-iff a (low ∷ []) = (λ t. inl refl, λ h. tt)

@@ -22,25 +22,15 @@ one-test a b f g = bool-ext a b (λ t. g .1 (f .0 t)) (λ t. f .1 (g .0 t))
 
 -- NOTHING IS OPEN: one answer keeps the promise.
 pub ranging-settled : (file bytes : List ℕ) (words : ℕ) (t u : Told) → Promised file bytes words t → Promised file bytes words u → t ≡ u
-ranging-settled file bytes words t u p q = λ i. record { number = number i; at-fault = at-fault i; always = always i; sometimes = sometimes i; never = never i }
-  where
-    refusal : (u .number ≡ t .number) × (u .at-fault ≡ t .at-fault)
-    refusal = q .refuses (t .number) (t .at-fault) .1 (p .refuses (t .number) (t .at-fault) .0 (refl, refl))
-
-    number : t .number ≡ u .number
-    number = sym (refusal .0)
-
-    at-fault : t .at-fault ≡ u .at-fault
-    at-fault = sym (refusal .1)
-
-    always : t .always ≡ u .always
-    always = one-test (t .always) (u .always) (p .always) (q .always)
-
-    sometimes : t .sometimes ≡ u .sometimes
-    sometimes = one-test (t .sometimes) (u .sometimes) (p .sometimes) (q .sometimes)
-
-    never : t .never ≡ u .never
-    never = one-test (t .never) (u .never) (p .never) (q .never)
+ranging-settled file bytes words t u p q =
+    let refusal = q .refuses (t .number) (t .at-fault) .1 (p .refuses (t .number) (t .at-fault) .0 (refl, refl)) in
+    λ i. record {
+      number = sym (refusal .0) i;
+      at-fault = sym (refusal .1) i;
+      always = one-test (t .always) (u .always) (p .always) (q .always) i;
+      sometimes = one-test (t .sometimes) (u .sometimes) (p .sometimes) (q .sometimes) i;
+      never = one-test (t .never) (u .never) (p .never) (q .never) i;
+    }
 
 -- ---- where nothing is refused one of the three is told, and no other
 -- the first of three tests holds, and the others do not

@@ -1,4 +1,5 @@
 pub mod WalkFrames
+pub mod ByTwos
 pub mod CopyRows
 pub mod ExpandOne
 pub mod ExpandSets

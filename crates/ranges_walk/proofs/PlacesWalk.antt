@@ -10,20 +10,20 @@ use native.Mathlib.Omega.{arith}
 use borrow.Author.Tests.{le-ltb, lt-ltb, ltb-true, not-false}
 use lib.Dec.{T, ltb}
 use lib.ListN.{drop, drop-of-length-le, getD, length}
-use Rattle.automata.specs.LiveSets.{behind, sameSet}
+use Rattle.automata.specs.LiveSets.{sameSet}
 use Rattle.fillings.specs.Fillings.{Range, behindPlace, behindPlaces, fromTo, manyBehind}
 use Rattle.file_fields.specs.declared.Counts.{Counts}
-use Rattle.format.specs.Decoding.{automatonOf}
 use Rattle.word_fields.specs.Frame.{Kept}
 use Rattle.word_layout.specs.Layout.{beforeTable, letterSets, offsets, setRows, setTable}
 use Rattle.word_layout.specs.declared.Block.{Block}
 use Rattle.live_table.specs.SetRows.{leftRow}
 use Rattle.live_table.specs.declared.Grown.{Grown}
 use Rattle.live_table.specs.declared.Grown.the-variants.{TooMany, Total}
+use Rattle.live_search.proofs.Laws.{sets-same}
 use Rattle.ranges_promise.specs.RangeAnswers.{badRanges, rangesOf}
-use Rattle.ranges_promise.proofs.Laws.{one-left, two-left}
 use Rattle.ranges_walk.specs.Walking.{BehindPlace, Ready, SetsIn, Walked}
-use Rattle.ranges_walk.proofs.WalkFrames.{ready-kept, sets-same}
+use Rattle.ranges_walk.proofs.ByTwos.{bad-one, bad-two, ranges-two}
+use Rattle.ranges_walk.proofs.WalkFrames.{behindIn, ready-kept}
 
 -- ---- the bytes
 -- neither test holds
@@ -42,17 +42,16 @@ pub record Place (a : ℕ) (bytes : List ℕ) (i : ℕ) : Type 0 where
   pub rest : badRanges a (drop (i + 2) bytes) ≡ false
   pub ranges : rangesOf (drop i bytes) ≡ rangeAt bytes i ∷ rangesOf (drop (i + 2) bytes)
 
-pub place-at : (a : ℕ) (bytes : List ℕ) (i : ℕ) → i < length bytes → badRanges a (drop i bytes) ≡ false → Place a bytes i
-unfolding badRanges rangesOf
+place-at : (a : ℕ) (bytes : List ℕ) (i : ℕ) → i < length bytes → badRanges a (drop i bytes) ≡ false → Place a bytes i
 place-at a bytes i h e = go (decLt (i + 1) (length bytes))
   where
     go : Dec (i + 1 < length bytes) → Place a bytes i
-    go (no n) = absurd (true≢false (rw (one-left bytes i (omega (arith, n))) at e))
+    go (no n) = absurd (true≢false (sym (bad-one bytes i a (omega (arith, n))) ∙ e))
     go (yes n) =
-        let two = two-left bytes i n in
-        let f = neither (ltb (getD bytes (i + 1) 0) (getD bytes i 0)) (not (ltb (getD bytes (i + 1) 0) a) || badRanges a (drop (i + 2) bytes)) (rw two at e) in
-        let g = neither (not (ltb (getD bytes (i + 1) 0) a)) (badRanges a (drop (i + 2) bytes)) (f .1) in
-        record { whole = n; letter = ltb-true (getD bytes (i + 1) 0) a (not-false (ltb (getD bytes (i + 1) 0) a) (g .0)); rest = g .1; ranges = rw two }
+        let high = getD bytes (i + 1) 0 in
+        let f = neither (ltb high (getD bytes i 0)) (not (ltb high a) || badRanges a (drop (i + 2) bytes)) (sym (bad-two bytes i a n) ∙ e) in
+        let g = neither (not (ltb high a)) (badRanges a (drop (i + 2) bytes)) (f .1) in
+        record { whole = n; letter = ltb-true high a (not-false (ltb high a) (g .0)); rest = g .1; ranges = ranges-two bytes i n }
 
 -- ---- the live sets
 module _ {Q : Type 0} (same : Q → Q → Bool) (δ : Q → ℕ → Q) (states : List Q) (r : Range) (rs : List Range) where
@@ -70,19 +69,15 @@ module _ {Q : Type 0} (same : Q → Q → Bool) (δ : Q → ℕ → Q) (states :
   unfolding behindPlaces
   ends-on = refl
 
--- the live set that a letter leads to, of the automaton in the file
-abbrev pub leads : (file : List ℕ) → List Bool → ℕ → List Bool
-leads file = behind (automatonOf file) 256
-
 -- the n rows before a place are those from which the other bytes lead to what all bytes lead to from S
 pub record WalkedTo (file w : List ℕ) (n : ℕ) (S : List Bool) (bytes : List ℕ) (i : ℕ) : Type 0 where
   pub sets : List (List Bool)
   pub held : SetsIn file beforeTable w n sets
-  pub many : manyBehind sameSet (leads file) 512 (S ∷ []) (rangesOf bytes) ≡ manyBehind sameSet (leads file) 512 sets (rangesOf (drop i bytes))
-  pub ends : behindPlaces sameSet (leads file) (S ∷ []) (rangesOf bytes) ≡ behindPlaces sameSet (leads file) sets (rangesOf (drop i bytes))
+  pub many : manyBehind sameSet (behindIn file) 512 (S ∷ []) (rangesOf bytes) ≡ manyBehind sameSet (behindIn file) 512 sets (rangesOf (drop i bytes))
+  pub ends : behindPlaces sameSet (behindIn file) (S ∷ []) (rangesOf bytes) ≡ behindPlaces sameSet (behindIn file) sets (rangesOf (drop i bytes))
 
 module _ (file : List ℕ) where
-  pub walk-start : {w : List ℕ} {S : List Bool} (bytes : List ℕ) → SetsIn file beforeTable w 1 (S ∷ []) → WalkedTo file w 1 S bytes 0
+  walk-start : {w : List ℕ} {S : List Bool} (bytes : List ℕ) → SetsIn file beforeTable w 1 (S ∷ []) → WalkedTo file w 1 S bytes 0
   walk-start {w} {S} bytes h = record { sets = S ∷ []; held = h; many = refl; ends = refl }
 
   module _ {a : ℕ} {w : List ℕ} {n : ℕ} {S : List Bool} (bytes : List ℕ) (i : ℕ) (p : Place a bytes i) (k : WalkedTo file w n S bytes i) where
@@ -90,20 +85,20 @@ module _ (file : List ℕ) where
     r = rangeAt bytes i
 
     -- too many behind the place
-    pub walk-over : ((sets : List (List Bool)) → SetsIn file beforeTable w n sets → 512 < length (behindPlace sameSet (leads file) sets r)) → T (manyBehind sameSet (leads file) 512 (S ∷ []) (rangesOf bytes))
+    walk-over : ((sets : List (List Bool)) → SetsIn file beforeTable w n sets → 512 < length (behindPlace sameSet (behindIn file) sets r)) → T (manyBehind sameSet (behindIn file) 512 (S ∷ []) (rangesOf bytes))
     walk-over f =
-        subst T (sym (k .many ∙ ap (manyBehind sameSet (leads file) 512 (k .sets)) (p .ranges))) (many-over sameSet (leads file) (k .sets) r (rangesOf (drop (i + 2) bytes)) 512 (f (k .sets) (k .held)))
+        subst T (sym (k .many ∙ ap (manyBehind sameSet (behindIn file) 512 (k .sets)) (p .ranges))) (many-over sameSet (behindIn file) (k .sets) r (rangesOf (drop (i + 2) bytes)) 512 (f (k .sets) (k .held)))
 
     -- those behind it become those before the next
-    pub walk-more : {w' : List ℕ} {m : ℕ} → ((sets : List (List Bool)) → SetsIn file beforeTable w n sets → SetsIn file beforeTable w' m (behindPlace sameSet (leads file) sets r)) → m ≤ 512 → WalkedTo file w' m S bytes (i + 2)
+    walk-more : {w' : List ℕ} {m : ℕ} → ((sets : List (List Bool)) → SetsIn file beforeTable w n sets → SetsIn file beforeTable w' m (behindPlace sameSet (behindIn file) sets r)) → m ≤ 512 → WalkedTo file w' m S bytes (i + 2)
     walk-more {w'} {m} f few =
         let h = f (k .sets) (k .held) in
         let rs = rangesOf (drop (i + 2) bytes) in
         record {
-          sets = behindPlace sameSet (leads file) (k .sets) r;
+          sets = behindPlace sameSet (behindIn file) (k .sets) r;
           held = h;
-          many = k .many ∙ ap (manyBehind sameSet (leads file) 512 (k .sets)) (p .ranges) ∙ many-on sameSet (leads file) (k .sets) r rs 512 (omega (arith, h .many));
-          ends = k .ends ∙ ap (behindPlaces sameSet (leads file) (k .sets)) (p .ranges) ∙ ends-on sameSet (leads file) (k .sets) r rs;
+          many = k .many ∙ ap (manyBehind sameSet (behindIn file) 512 (k .sets)) (p .ranges) ∙ many-on sameSet (behindIn file) (k .sets) r rs 512 (omega (arith, h .many));
+          ends = k .ends ∙ ap (behindPlaces sameSet (behindIn file) (k .sets)) (p .ranges) ∙ ends-on sameSet (behindIn file) (k .sets) r rs;
         }
 
   pub walk-end : {w : List ℕ} {n : ℕ} {S : List Bool} (bytes : List ℕ) (i : ℕ) → length bytes ≤ i → n ≤ 512 → WalkedTo file w n S bytes i → Walked file w (S ∷ []) (rangesOf bytes) (Total n)
@@ -128,9 +123,9 @@ pub passed-place : {file : List ℕ} {c : Counts} {block : Block} {bytes w₀ w 
 passed-place {c = c} {bytes = bytes} {i = i} p l = place-at (c .letters) bytes i l (p .sound)
 
 module _ {file : List ℕ} {c : Counts} {block : Block} {bytes w₀ w : List ℕ} {n i : ℕ} (w' : List ℕ) (r : Grown) (p : Passed file c block bytes w₀ w n i) (l : i < length bytes)
-    (f : (sets : List (List Bool)) → SetsIn file beforeTable w n sets → BehindPlace file w' (behindPlace sameSet (leads file) sets (rangeAt bytes i)) r) where
+    (f : (sets : List (List Bool)) → SetsIn file beforeTable w n sets → BehindPlace file w' (behindPlace sameSet (behindIn file) sets (rangeAt bytes i)) r) where
   pub passed-over : r ≡ TooMany → (S : List Bool) → SetsIn file beforeTable w₀ 1 (S ∷ []) → Walked file w' (S ∷ []) (rangesOf bytes) TooMany
-  passed-over e S h = walk-over file bytes i (passed-place p l) (p .walks S h) (λ sets k. subst (λ (r : Grown). BehindPlace file w' (behindPlace sameSet (leads file) sets (rangeAt bytes i)) r) e (f sets k))
+  passed-over e S h = walk-over file bytes i (passed-place p l) (p .walks S h) (λ sets k. subst (λ (r : Grown). BehindPlace file w' (behindPlace sameSet (behindIn file) sets (rangeAt bytes i)) r) e (f sets k))
 
   pub passed-more : {m : ℕ} {w'' : List ℕ} → r ≡ Total m → Kept setRows (letterSets + 256) w w' → m ≤ 512 → Kept 0 offsets w' w'' → ((i : ℕ) → i < m → leftRow beforeTable w'' i ≡ leftRow setTable w' i)
       → Passed file c block bytes w₀ w'' m (i + 2)
@@ -140,5 +135,5 @@ module _ {file : List ℕ} {c : Counts} {block : Block} {bytes w₀ w : List ℕ
     few = few;
     sound = passed-place p l .rest;
     walks = λ S h. walk-more file bytes i (passed-place p l) (p .walks S h)
-        (λ sets q. sets-same rows (subst (λ (r : Grown). BehindPlace file w' (behindPlace sameSet (leads file) sets (rangeAt bytes i)) r) e (f sets q))) few;
+        (λ sets q. sets-same rows (subst (λ (r : Grown). BehindPlace file w' (behindPlace sameSet (behindIn file) sets (rangeAt bytes i)) r) e (f sets q))) few;
   }

@@ -12,9 +12,9 @@ use Rattle.word_fields.proofs.Laws.{field-same, kept-then, kept-wider}
 use Rattle.word_layout.specs.Layout.{setTable, targets}
 use Rattle.word_layout.specs.declared.SetTable.{SetTable}
 use Rattle.table.proofs.Laws.{stands-outgoing, stands-steps}
-use Rattle.live_building.proofs.Laws.{tabled}
+use Rattle.live_building.proofs.Laws.{step-room, tabled}
 use Rattle.count_targets.specs.Counting.{Counting}
-use Rattle.count_targets.proofs.CountingLaws.{counting-few, counting-kept, counting-letters-few, counting-room, numbered-view}
+use Rattle.count_targets.proofs.CountingLaws.{counting-few, counting-kept, counting-letters-few, numbered-view}
 use Rattle.count_targets.proofs.NotingLaws.{numbers-noted}
 use Rattle.count_targets.proofs.note_targets.Statement.{statement}
 use Rattle.count_targets.proofs.note_targets.Tie as tie
@@ -30,7 +30,7 @@ left-requires : tie.Need-left-requires
 left-requires c κs = let s = start c in rw (c .set-table .ensures) (omega (arith, s .pre .1 .0, counting-few (s .pre .0)), tabled (omega (arith, s .pre .0 .enough)))
 
 step-letters-requires : tie.Need-step-letters-requires
-step-letters-requires c κs = let h = start (c .before .before) .pre .0 in (stands-steps (h .stands) (counting-room h), omega arith)
+step-letters-requires c κs = let h = start (c .before .before) .pre .0 in (stands-steps (h .stands) (step-room (h .only) (h .enough)), omega arith)
 
 number-letters-requires : tie.Need-number-letters-requires
 number-letters-requires c κs =

@@ -2,11 +2,11 @@
 use borrow.Author.Needs.{needs}
 use native.Mathlib.Omega.{arith}
 use mathlib.Core.Logic.{inr}
-use mathlib.Core.Path.{refl}
 use Rattle.word_fields.proofs.Laws.{kept-then, kept-wider}
 use Rattle.table_sets.specs.Stepping.{setOf}
 use Rattle.live_table.proofs.Laws.{tabled-kept}
 use Rattle.live_letters.proofs.Laws.{holds-kept, table-kept}
+use Rattle.live_sets.proofs.Laws.{same-room}
 use Rattle.live_search.proofs.ExpandSet.{all-met, letters-behind}
 use Rattle.live_search.proofs.expand_set.Statement.{statement}
 use Rattle.live_search.proofs.expand_set.Tie as tie
@@ -29,7 +29,7 @@ meet-letters-requires c κs =
       (
         (
           (tabled-kept k (p .tabled), p .one),
-          record { behind₁ = p .behind; behind₂ = p .behind; long₁ = omega (arith, k .long, p .steps .room .rows); long₂ = omega (arith, k .long, p .steps .room .rows); one = λ _. (refl, refl) },
+          same-room _ (p .behind) (omega (arith, k .long, p .steps .room .rows)),
         ),
         table-kept (p .tabled) k (inr (p .behind)) (s .pre .1 .1) .chain,
       ),

@@ -70,7 +70,7 @@ loop-again c =
     let o = i .before in
     let a = o .before .before .args in
     turns-more _ _ (i .loop-test .taken) (o .loop .inv) (met g) (λ j e. sym (set-off (a .w .now) (a .acc) (a .met) j e)) (v .0 .0) (c .next-letter .result) (u .unmet .result) (v .1)
-    (λ z. empty-sets (a .w .now) (a .acc) (a .acc) (a .met) (a .met) (o .loop .l) (subst T (u .unmet .ensures) z)) (c .next-letter .ensures)
+    (λ z. empty-sets (a .w .now) (a .acc) (a .acc) (a .met) (a .met) (o .loop .l) (subst T (u .unmet .ensures) z) .0) (c .next-letter .ensures)
 
 same-length-2 : tie.Need-same-length-2 Inv-loop μ-loop
 same-length-2 c = c .before .loop .inv .kept .long

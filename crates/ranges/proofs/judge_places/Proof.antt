@@ -39,8 +39,9 @@ walk-places-requires c κs = let d = c .before .before .before in (ready d, star
 first : (d : tie.After-store) → let file = start d .args .file .now in SetsIn file beforeTable (d .store .last .0) 1 (liveSet (automatonOf file) 256 [] ∷ [])
 first d =
     let h = start d .pre .0 .stands in
-    let x = automatonOf (start d .args .file .now) in
-    first-set h (d .before .before .start-set .ensures (letters x) (plainArcs x 256) (stands-tells h)) (d .store .ensures .1)
+    let file = start d .args .file .now in
+    let x = automatonOf file in
+    first-set file h (d .before .before .start-set .ensures (letters x) (plainArcs x 256) (stands-tells h)) (d .store .ensures .1)
 
 abbrev stored : tie.After-walk-places → tie.After-store
 stored e = e .before .before .before .before
@@ -56,7 +57,7 @@ returns c =
     let e = c .before .before .before .before in
     let s = start (stored e) in (
       e .walk-places .ensures .0 ∙ stored e .store .ensures .0 .long,
-      walked-over (s .pre .0 .stands) (e .walk-places .last .1 .1 .0) (e .walk-places .result) (s .args .places .now) (walked e) (c .enum-told .given .1),
+      walked-over (s .args .file .now) (e .walk-places .last .1 .1 .0) (e .walk-places .result) (s .args .places .now) (walked e) (c .enum-told .given .1),
     )
 
 judge-requires : tie.Need-judge-requires
@@ -64,7 +65,7 @@ judge-requires c κs =
     let z = c .before .before in
     let e = z .before .before .before .before in
     let s = start (stored e) in (
-      walked-few (s .pre .0 .stands) (e .walk-places .last .1 .1 .0) (e .walk-places .result) (s .args .places .now) (walked e) (z .n .given .1),
+      walked-few (s .args .file .now) (e .walk-places .last .1 .1 .0) (e .walk-places .result) (s .args .places .now) (walked e) (z .n .given .1),
       omega (arith, s .pre .0 .enough, e .walk-places .ensures .0, stored e .store .ensures .0 .long),
     )
 
@@ -75,8 +76,8 @@ returns-2 c =
     let s = start (stored e) in
     let f = stored e .before .before .before .before in (
       e .walk-places .ensures .0 ∙ stored e .store .ensures .0 .long,
-      walked-judged (s .pre .0 .stands) (e .walk-places .last .1 .1 .0) (e .walk-places .result) (s .args .places .now) (walked e) (z .n .given .1)
-          (f .final-configurations .result) (f .final-configurations .ensures) (c .judge .ensures),
+      walked-judged (s .args .file .now) (e .walk-places .last .1 .1 .0) (e .walk-places .result) (s .args .places .now) (walked e) (z .n .given .1)
+          (f .final-configurations .result) (s .pre .0 .stands) (f .final-configurations .ensures) (c .judge .ensures),
     )
 
 pub judge-places-spec : {M : Type 1} → statement M

@@ -7,7 +7,7 @@ use Rattle.automata.specs.Lists.{countFrom}
 use Rattle.word_fields.proofs.Laws.{kept-then, kept-wider}
 use Rattle.word_layout.specs.Layout.{letterSets}
 use Rattle.table_sets.specs.Stepping.{setOf}
-use Rattle.ranges_walk.proofs.ExpandOne.{Meetable, MetIn, chain-stays, meetable, met-behind, met-chained, ready-letters, ready-steps, sets-stay}
+use Rattle.ranges_walk.proofs.ExpandOne.{Meetable, MetIn, chain-stays, meetable, met-behind, met-chained, ready-steps, sets-stay}
 use Rattle.ranges_walk.proofs.expand.Statement.{statement}
 use Rattle.ranges_walk.proofs.expand.Tie as tie
 
@@ -26,7 +26,7 @@ meet-letters-requires c κs =
     let p = start q .pre in
     let k = q .step-letters .ensures .0 in
     let n = p .1 .1 in (
-      (omega (arith, p .0 .1, ready-letters (p .0 .0)), (omega arith, n .0)),
+      (omega (arith, p .0 .1, ready-steps (p .0 .0) .walkable .letters), (omega arith, n .0)),
       subst (Meetable _ _ _) (sym (c .set-table .ensures)) (meetable (p .0 .0 .enough) (n .0) k (q .step-letters .result) (n .1)),
     )
 
