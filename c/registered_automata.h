@@ -3,11 +3,16 @@
  *
  * Link with libregistered_automata.a, which `rt staticlib registered_automata` writes to target/staticlib (x86-64).
  *
+ * The scanner's part by itself is libscanner.a, which `rt staticlib scanner` writes beside it: ra_read, ra_accepts and ra_accepts_words, as
+ * they are declared here, and nothing else. It has less than 12,500 bytes of code, constants among them, and no data (`size`, which c/run
+ * holds it to); needs RA_WORKING_WORDS working words; and took less than 800 bytes of stack in every call that was measured. Of functions
+ * outside of itself it calls memset alone. Link with one of the two, not with both.
+ *
  * Memory. The library allocates nothing, keeps nothing between calls and has no state of its own: it looks only at the bytes
  * handed to it and writes only to the memory lent to it, so calls in different threads may run at the same time if they are lent
  * different memory. All memory belongs to the caller before, during and after a call. A pointer whose length is 0 may be null.
  * Memory that a call may write to must not overlap any other that it is handed.
- * Stack: less than 2,000 bytes were measured in every call, the most in ra_compare, less than 700 where no two files are handed in.
+ * Stack: less than 2,000 bytes were measured in every call, the most in ra_compare, less than 800 where no two files are handed in.
  *
  * Every call comes back, on every input: a file may hold any bytes.
  *
@@ -19,12 +24,12 @@
  * letters of their own: they are joined and compared over the letters of both, which are the bytes that the first lists and those of the
  * second that stand for none of its letters, ascending; there may be 64 of them. Joined files list these bytes, and shown words have them.
  *
- * Working words. Calls that take `work` need RA_WORKING_WORDS words (uint64_t) or more. They may hold anything before the call
- * and hold anything afterwards; nothing has to be cleared between calls.
+ * Working words. Calls that take `work` need RA_WORKING_WORDS words (uint64_t) or more. They may hold anything before the call, words
+ * that were never filled among it, and hold anything afterwards; nothing has to be cleared between calls.
  *
  * Answers. A struct is returned by value. Its field `number` is 0 where the call was not refused; else it is one of
  * enum ra_refusal, `automaton` is 1 or 2 for the automaton at fault (0 where neither is), and all other fields are 0, but that
- * ra_read tells the place of the fault. A refused call leaves outputs and the buffer for the word exactly as they were lent. A
+ * ra_read tells the place of the fault. A refused call leaves outputs, answers and the buffer for the word exactly as they were lent. A
  * call that was not refused leaves the bytes behind its result as they were lent.
  *
  * Where several refusals would be in place, the call answers the first in this order: RA_TOO_LITTLE_MEMORY_LENT; the first file's
@@ -129,6 +134,14 @@ struct ra_membership {
     uint8_t accepted;   /* 1 where the word is accepted, else 0 */
 };
 
+/* What ra_accepts_words answers. */
+struct ra_words_judged {
+    uint64_t count;     /* how many words were judged: their answers stand at the front of `answers` */
+    uint64_t bytes;     /* how many bytes these words take, each with the separator behind it */
+    uint8_t number;     /* 0, or enum ra_refusal */
+    uint8_t automaton;  /* the automaton at fault */
+};
+
 /* What a call answers that writes a file. */
 struct ra_written {
     uint64_t length;    /* how many bytes the file has; they stand at the front of the output */
@@ -181,6 +194,18 @@ struct ra_reading ra_read(const uint8_t *file, size_t file_length);
 struct ra_membership ra_accepts(const uint8_t *file, size_t file_length,
                                 const uint8_t *word, size_t word_length,
                                 uint64_t *work, size_t work_words);
+
+/* Which of many words does the automaton of the file accept? `words` has them one behind the other, each with the byte `separator` behind
+ * it, as the lines of a text have a newline; the separator is no part of a word, also where the file lists it as a letter. Word i, counted
+ * from 0, is answered in answers[i], with what ra_accepts tells of it: twice the number of live configurations, and one more where the word
+ * is accepted. As many words are judged as there is room for answers; bytes behind the last separator are not judged. A caller goes on
+ * behind the first `bytes` bytes of `words`, with what stands there. Answers behind the first `count`, and all where the call is refused, are
+ * left as they were lent. The automaton is built once, so that a word costs what its letters do. Refused: as ra_accepts. */
+struct ra_words_judged ra_accepts_words(const uint8_t *file, size_t file_length,
+                                        const uint8_t *words, size_t words_length,
+                                        uint8_t separator,
+                                        uint64_t *work, size_t work_words,
+                                        uint64_t *answers, size_t answers_length);
 
 /* Writes an automaton with one register, which always holds 0, that accepts the same words. Its states are the configurations
  * of the first. Refused: a fault of the file, 21, 22, 24, 25. */
@@ -238,6 +263,58 @@ struct ra_word_count ra_count_words(const uint8_t *file, size_t file_length,
 struct ra_ranged ra_accepts_ranges(const uint8_t *file, size_t file_length,
                                    const uint8_t *places, size_t places_length,
                                    uint64_t *work, size_t work_words);
+
+/* A sentence for a user: what a refusal's number means, as the programs tell it. `no such refusal` for 0 and every number that enum
+ * ra_refusal lacks. The text is constant and belongs to nobody. */
+static inline const char *ra_message(uint8_t number) {
+    switch (number) {
+    case RA_ENDS_INSIDE_A_FIELD:
+        return "the file ends inside a field";
+    case RA_MARK:
+        return "the file does not begin with the mark MLB";
+    case RA_VERSION:
+        return "the version is not 1";
+    case RA_HEADER_COUNT:
+        return "a count is out of its range: letters 0 to 64, states 1 to 256, registers 1 to 8, symbols 1 to 16, arcs 0 to 2048";
+    case RA_LETTERS_NOT_ASCENDING:
+        return "the letters do not ascend strictly, or a letter stands there as a capital and as a small letter";
+    case RA_FINAL_FLAG:
+        return "a final flag is neither 00 nor 01";
+    case RA_ARC_SOURCE:
+        return "an arc's from-state, its first byte, is not below the number of states";
+    case RA_ARC_LETTER:
+        return "an arc's letter, its second byte, is neither below the number of letters nor FF";
+    case RA_ARC_TARGET:
+        return "an arc's to-state, its third byte, is not below the number of states";
+    case RA_ARC_OPERATIONS:
+        return "an arc's number of operations, its fourth byte, is not 1 to 8";
+    case RA_OPERATION:
+        return "an operation is not one: kind 0 or 1, register and symbol below their counts, register 0 only with the read of "
+               "symbol 0";
+    case RA_BYTES_AFTER_THE_LAST_ARC:
+        return "bytes follow the last arc";
+    case RA_JOINED_BEYOND_A_LIMIT:
+        return "the letters of both files are more than 64, or the result would be beyond a limit: 256 states, 8 registers, 2048 "
+               "arcs, 8 operations on an arc";
+    case RA_TOO_MANY_CONFIGURATIONS:
+        return "more than 256 configurations can be reached";
+    case RA_TOO_MANY_PLAIN_ARCS:
+        return "more than 2048 plain arcs: passing arcs, counted at each configuration";
+    case RA_TOO_MANY_LIVE_SETS:
+        return "words lead to more than 512 live sets, or to more than 512 pairs of them where two automata are compared, or to more "
+               "than 512 behind one place of a word with ranges";
+    case RA_TOO_LITTLE_MEMORY_LENT:
+        return "less working memory than 8192 words, or less room for a word than 512 bytes";
+    case RA_OUTPUT_TOO_SHORT:
+        return "less room than the result has bytes";
+    case RA_LENGTH_TOO_LARGE:
+        return "the length is above 64, or more than 18446744073709551615 words have it";
+    case RA_BAD_RANGES:
+        return "a byte is left over, or a range has its low above its high or its high not below the number of letters";
+    default:
+        return "no such refusal";
+    }
+}
 
 #ifdef __cplusplus
 }

@@ -3,6 +3,7 @@
 #include "registered_automata.h"
 
 #include <stdio.h>
+#include <stdlib.h>
 #include <string.h>
 
 /* ---- the automata */
@@ -141,11 +142,22 @@ static void expect(const char *what, uint64_t answer, uint64_t expected) {
 /* What stands in lent bytes before a call. */
 #define LENT 0xA5
 
-static uint64_t work[RA_WORKING_WORDS];
+static uint64_t *work;
 static uint8_t out[RA_LONGEST_FILE];
 
+/* Are working words lent filled? The tests are run both ways: filled, so that what stands in them is known and is not 0; and as malloc
+ * gives them, so that memcheck tells where a call would use a word that it has not written. */
+static int fills_words;
+
 static void lend(void) {
-    memset(work, LENT, sizeof work);
+    free(work);
+    work = malloc(RA_WORKING_WORDS * sizeof *work);
+    if (work == NULL) {
+        printf("no memory for the working words\n");
+        exit(2);
+    }
+    if (fills_words)
+        memset(work, LENT, RA_WORKING_WORDS * sizeof *work);
     memset(out, LENT, sizeof out);
 }
 
@@ -287,6 +299,91 @@ static void test_accepts(void) {
     r = ra_accepts(T, sizeof T - 1, NULL, 0, work, RA_WORKING_WORDS);
     expect("number", r.number, RA_ENDS_INSIDE_A_FIELD);
     expect("automaton at fault", r.automaton, 1);
+}
+
+/* One letter; two registers hold any of 16 symbols each, in either of two states: 512 configurations. Answers the length of the file. */
+static size_t many_configurations(uint8_t *file) {
+    const uint8_t begin[] = {0x4D, 0x4C, 0x42, 1, 0, 1, 2, 0, 3, 16, 33, 0, 'a', 0, 1};
+    memcpy(file, begin, sizeof begin);
+    size_t length = sizeof begin;
+    for (uint8_t i = 0; i < 33; i++) {
+        const uint8_t arc[] = {0, 0, i == 32, 1, i == 32 ? 0x00 : 0x11 + i / 16, i % 16};
+        memcpy(file + length, arc, sizeof arc);
+        length += sizeof arc;
+    }
+    return length;
+}
+
+/* Answers of many words, and one more place than the most that are lent. */
+#define ANSWERS 7
+static uint64_t answers[ANSWERS];
+
+/* Are the answers from one on as they were lent? */
+static int answers_untouched_from(size_t at) {
+    for (size_t i = at; i < ANSWERS; i++)
+        if (answers[i] != UINT64_MAX)
+            return 0;
+    return 1;
+}
+
+/* So many words are judged, and each has the answer that ra_accepts gives. */
+static void expect_judged(const char *name, const uint8_t *file, size_t size, const char *words, size_t length, char separator, size_t room, size_t count, size_t bytes) {
+    printf("ra_accepts_words of %s, room for %zu\n", name, room);
+    lend();
+    memset(answers, 0xFF, sizeof answers);
+    struct ra_words_judged r = ra_accepts_words(file, size, (const uint8_t *)words, length, (uint8_t)separator, work, RA_WORKING_WORDS, answers, room);
+    expect("number", r.number, 0);
+    expect("automaton at fault", r.automaton, 0);
+    expect("words", r.count, count);
+    expect("bytes", r.bytes, bytes);
+    expect("answers behind them as lent", answers_untouched_from(count), 1);
+    for (size_t i = 0; i < count; i++) {
+        const char *end = memchr(words, separator, length);
+        struct ra_membership one = ra_accepts(file, size, (const uint8_t *)words, (size_t)(end - words), work, RA_WORKING_WORDS);
+        expect("answer", answers[i], 2 * one.live + one.accepted);
+        length -= (size_t)(end + 1 - words);
+        words = end + 1;
+    }
+}
+
+static void expect_none_judged(struct ra_words_judged r, enum ra_refusal number, int automaton) {
+    expect("number", r.number, number);
+    expect("automaton at fault", r.automaton, automaton);
+    expect("all else together", r.count + r.bytes, 0);
+    expect("answers as lent", answers_untouched_from(0), 1);
+}
+
+static void test_accepts_words(void) {
+    const char words[] = "cc\ncmmc\nce\nc\n\ncxc\nCmC";
+    expect_judged("T: six words, and a rest", T, sizeof T, words, sizeof words - 1, '\n', ANSWERS, 6, 18);
+    expect("of cc", answers[0], 3);
+    expect("of ce", answers[2], 0);
+    expect("of c", answers[3], 2);
+    expect("of the empty word", answers[4], 2);
+    expect_judged("T: just as many answers as words", T, sizeof T, words, sizeof words - 1, '\n', 6, 6, 18);
+    expect_judged("T: fewer answers than words", T, sizeof T, words, sizeof words - 1, '\n', 2, 2, 8);
+    expect_judged("T: the words behind these", T, sizeof T, words + 8, sizeof words - 1 - 8, '\n', ANSWERS, 4, 10);
+    expect_judged("T: no room", T, sizeof T, words, sizeof words - 1, '\n', 0, 0, 0);
+    expect_judged("T: a word without a separator", T, sizeof T, "cc", 2, '\n', ANSWERS, 0, 0);
+    expect_judged("T: no bytes", T, sizeof T, "", 0, '\n', ANSWERS, 0, 0);
+    expect_judged("T: a separator alone", T, sizeof T, "\n", 1, '\n', ANSWERS, 1, 1);
+    expect_judged("T: m, a letter of T, separates", T, sizeof T, "cmeme", 5, 'm', ANSWERS, 2, 4);
+    expect_judged("T: the byte 0 separates", T, sizeof T, "cc\0eme\0", 7, '\0', ANSWERS, 2, 7);
+    expect_judged("the closure of S", S_CLOSED, sizeof S_CLOSED, ",b,ab,ba,", 9, ',', ANSWERS, 4, 9);
+
+    memset(answers, 0xFF, sizeof answers);
+    const uint8_t *bytes = (const uint8_t *)words;
+    printf("ra_accepts_words with nothing lent but working words\n");
+    struct ra_words_judged r = ra_accepts_words(T, sizeof T, NULL, 0, 0, work, RA_WORKING_WORDS, NULL, 0);
+    expect("all together", r.count + r.bytes + r.number + r.automaton, 0);
+    printf("ra_accepts_words with a working word too few\n");
+    expect_none_judged(ra_accepts_words(NULL, 0, bytes, sizeof words, '\n', work, RA_WORKING_WORDS - 1, answers, ANSWERS), RA_TOO_LITTLE_MEMORY_LENT, 0);
+    printf("ra_accepts_words of T without its last byte\n");
+    expect_none_judged(ra_accepts_words(T, sizeof T - 1, bytes, sizeof words, '\n', work, RA_WORKING_WORDS, answers, ANSWERS), RA_ENDS_INSIDE_A_FIELD, 1);
+    printf("ra_accepts_words of too many configurations\n");
+    uint8_t file[250];
+    size_t size = many_configurations(file);
+    expect_none_judged(ra_accepts_words(file, size, bytes, sizeof words, '\n', work, RA_WORKING_WORDS, answers, ANSWERS), RA_TOO_MANY_CONFIGURATIONS, 1);
 }
 
 static void test_unfold(void) {
@@ -520,19 +617,6 @@ static size_t letter_from_the_end(uint8_t place, uint8_t *file) {
     return length;
 }
 
-/* One letter; two registers hold any of 16 symbols each, in either of two states: 512 configurations. Answers the length of the file. */
-static size_t many_configurations(uint8_t *file) {
-    const uint8_t begin[] = {0x4D, 0x4C, 0x42, 1, 0, 1, 2, 0, 3, 16, 33, 0, 'a', 0, 1};
-    memcpy(file, begin, sizeof begin);
-    size_t length = sizeof begin;
-    for (uint8_t i = 0; i < 33; i++) {
-        const uint8_t arc[] = {0, 0, i == 32, 1, i == 32 ? 0x00 : 0x11 + i / 16, i % 16};
-        memcpy(file + length, arc, sizeof arc);
-        length += sizeof arc;
-    }
-    return length;
-}
-
 static void expect_ranged(const char *name, const uint8_t *file, size_t size, const uint8_t *places, size_t length, enum ra_fillings answer) {
     printf("ra_accepts_ranges of %s\n", name);
     lend();
@@ -620,6 +704,8 @@ static void test_arc_fields(void) {
         struct ra_membership m = ra_accepts(damaged, sizeof T, NULL, 0, work, RA_WORKING_WORDS);
         expect("number of ra_accepts", m.number, fields[i]);
         expect("automaton at fault", m.automaton, 1);
+        memset(answers, 0xFF, sizeof answers);
+        expect_none_judged(ra_accepts_words(damaged, sizeof T, NULL, 0, 0, work, RA_WORKING_WORDS, answers, ANSWERS), fields[i], 1);
         expect_refusal(ra_unfold(damaged, sizeof T, work, RA_WORKING_WORDS, out, sizeof out), fields[i], 1);
         expect_refusal(ra_union(T, sizeof T, damaged, sizeof T, out, sizeof out), fields[i], 2);
         expect_refusal(ra_concatenate(damaged, sizeof T, T, sizeof T, out, sizeof out), fields[i], 1);
@@ -631,9 +717,30 @@ static void test_arc_fields(void) {
     }
 }
 
-int main(void) {
+/* Each refusal has a sentence of its own, and no other number has one. */
+static void test_message(void) {
+    const char *none = "no such refusal";
+    int told = 0, alike = 0;
+    for (int n = 0; n < 256; n++) {
+        if (strcmp(ra_message((uint8_t)n), none) == 0)
+            continue;
+        told++;
+        for (int m = 0; m < n; m++)
+            alike += strcmp(ra_message((uint8_t)m), ra_message((uint8_t)n)) == 0;
+    }
+    printf("ra_message of every number\n");
+    expect("numbers with a sentence", told, 20);
+    expect("sentences that two numbers have", alike, 0);
+    expect("that of RA_MARK", strcmp(ra_message(RA_MARK), "the file does not begin with the mark MLB") == 0, 1);
+    expect("that of RA_TOO_MANY_CONFIGURATIONS", strcmp(ra_message(RA_TOO_MANY_CONFIGURATIONS), "more than 256 configurations can be reached") == 0, 1);
+    expect("that of no refusal", strcmp(ra_message(0), none) == 0, 1);
+    expect("that of the largest number", strcmp(ra_message(255), none) == 0, 1);
+}
+
+static void test_every_call(void) {
     test_read();
     test_accepts();
+    test_accepts_words();
     test_unfold();
     test_join("ra_union", ra_union, K_OR_K, sizeof K_OR_K, K_OR_S, sizeof K_OR_S);
     test_joined("ra_union", ra_union, 1, 1);
@@ -648,6 +755,15 @@ int main(void) {
     test_count_words();
     test_accepts_ranges();
     test_arc_fields();
+}
+
+int main(void) {
+    test_message();
+    for (fills_words = 0; fills_words < 2; fills_words++) {
+        printf("working words %s\n", fills_words ? "filled" : "as malloc gives them");
+        test_every_call();
+    }
+    free(work);
     printf("%d checks, %d differences\n", checks, differences);
     return differences > 0;
 }

@@ -1,8 +1,8 @@
 //! measure engine|plain CALL REPEATS FIRST [SECOND]: makes one call so many times, and prints the best time of one in nanoseconds.
 //!
-//! CALL is read, accepts, unfold, union, concatenate, intersect, close, compare, count_words or accepts_ranges. SECOND is the second file; for
-//! accepts it is a number: the word is so many letters, in turn; for count_words it is the length; for accepts_ranges it is the number of
-//! places, each of which can be any letter. bench/run counts the instructions of a call with it.
+//! CALL is read, accepts, accepts_words, unfold, union, concatenate, intersect, close, compare, count_words or accepts_ranges. SECOND is the
+//! second file; for accepts it is a number: the word is so many letters, in turn; for accepts_words it is the number of words, each of 20
+//! letters; for count_words it is the length; for accepts_ranges it is the number of places, each of which can be any letter. bench/run counts the instructions of a call with it.
 
 #[path = "../tests/common/plain.rs"]
 #[allow(dead_code)]
@@ -23,6 +23,31 @@ fn word(file: &[u8], length: usize) -> Vec<u8> {
     letters.iter().copied().cycle().take(length).collect()
 }
 
+/// How many letters each of many words has.
+const LETTERS: usize = 20;
+
+/// What stands behind each of many words: the first byte from that of the newline on that is no letter of the file.
+fn separator(file: &[u8]) -> u8 {
+    let letters = &file[12..12 + file[5] as usize];
+    (b'\n'..=u8::MAX)
+        .find(|byte| !letters.contains(byte))
+        .expect("a byte that is no letter")
+}
+
+/// So many words of the file's letters, in turn from each letter on.
+fn many_words(file: &[u8], count: usize) -> Vec<u8> {
+    let letters = file[5] as usize;
+    let behind = separator(file);
+    let turns = word(file, letters + LETTERS);
+    let mut all = Vec::new();
+    for i in 0..count {
+        let first = i % letters;
+        all.extend(&turns[first..first + LETTERS]);
+        all.push(behind);
+    }
+    all
+}
+
 /// So many places, each with the range of all letters of the file.
 fn places(file: &[u8], count: usize) -> Vec<u8> {
     [0, file[5] - 1].repeat(count)
@@ -39,6 +64,8 @@ fn main() {
     let mut length = 0;
     let second = if call == "accepts" {
         word(&file, other.parse().expect("the length of the word"))
+    } else if call == "accepts_words" {
+        many_words(&file, other.parse().expect("the number of words"))
     } else if call == "accepts_ranges" {
         places(&file, other.parse().expect("the number of places"))
     } else if call == "count_words" {
@@ -51,9 +78,21 @@ fn main() {
     };
     let mut work = engine::working_words();
     let mut out = vec![0u8; 60_000];
+    let behind = separator(&file);
+    let mut answers = vec![0u64; second.len() / (LETTERS + 1)];
+    let many = answers.len();
     let mut once: Box<dyn FnMut()> = match (side.as_str(), call.as_str()) {
         ("engine", "read") => Box::new(|| finish(engine::read(&file))),
         ("engine", "accepts") => Box::new(|| finish(engine::accepts(&file, &second, &mut work))),
+        ("engine", "accepts_words") => Box::new(|| {
+            finish(engine::accepts_words(
+                &file,
+                &second,
+                behind,
+                &mut work,
+                &mut answers,
+            ))
+        }),
         ("engine", "unfold") => Box::new(|| finish(engine::unfold(&file, &mut work, &mut out))),
         ("engine", "union") => Box::new(|| finish(engine::union(&file, &second, &mut out))),
         ("engine", "concatenate") => {
@@ -72,6 +111,9 @@ fn main() {
         }
         ("plain", "read") => Box::new(|| finish(plain::read(&file))),
         ("plain", "accepts") => Box::new(|| finish(plain::accepts(&file, &second, 8192))),
+        ("plain", "accepts_words") => {
+            Box::new(|| finish(plain::accepts_words(&file, &second, behind, 8192, many)))
+        }
         ("plain", "unfold") => Box::new(|| finish(plain::unfold(&file, 8192, 60_000))),
         ("plain", "union") => Box::new(|| finish(plain::union(&file, &second, 60_000))),
         ("plain", "concatenate") => Box::new(|| finish(plain::concatenate(&file, &second, 60_000))),

@@ -21,6 +21,14 @@ pub struct Membership {
 }
 
 #[repr(C)]
+pub struct WordsJudged {
+    pub count: u64,
+    pub bytes: u64,
+    pub number: u8,
+    pub automaton: u8,
+}
+
+#[repr(C)]
 pub struct Written {
     pub length: u64,
     pub number: u8,
@@ -61,6 +69,17 @@ extern "C" {
         work: *mut u64,
         words: usize,
     ) -> Membership;
+    pub fn ra_accepts_words(
+        file: *const u8,
+        file_length: usize,
+        words: *const u8,
+        words_length: usize,
+        separator: u8,
+        work: *mut u64,
+        work_words: usize,
+        answers: *mut u64,
+        answers_length: usize,
+    ) -> WordsJudged;
     pub fn ra_unfold(
         file: *const u8,
         file_length: usize,

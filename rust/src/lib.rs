@@ -58,6 +58,23 @@ pub struct Membership {
     pub live: u64,
 }
 
+impl Membership {
+    /// What [`accepts_words`] answers of one word.
+    pub fn from_answer(answer: u64) -> Membership {
+        Membership {
+            accepted: answer % 2 == 1,
+            live: answer / 2,
+        }
+    }
+}
+
+/// How many words were judged, and how many bytes they take, each with the separator behind it.
+#[derive(Clone, Copy, Debug, PartialEq, Eq)]
+pub struct WordsJudged {
+    pub count: usize,
+    pub bytes: usize,
+}
+
 /// Whether two automata accept the same words. `pairs` is the number of distinct pairs of live sets over all words of the letters of
 /// both; a letter that one of the two lacks leaves nothing live there.
 #[derive(Clone, Copy, Debug, PartialEq, Eq)]
@@ -139,6 +156,53 @@ pub fn accepts(file: &[u8], word: &[u8], work: &mut [u64]) -> Result<Membership,
     Ok(Membership {
         accepted: r.accepted != 0,
         live: r.live,
+    })
+}
+
+/// Which of many words does the automaton of the file accept? `words` has them one behind the other, each with the separator behind it, as
+/// the lines of a text have a newline; the separator is no part of a word. Word i is answered in `answers[i]`, as [`accepts`] does:
+/// [`Membership::from_answer`] tells it. As many words are judged as there is room for answers; bytes behind the last separator are not
+/// judged. Answers how many words these are and how many bytes they take, so that the next call can go on behind them. The automaton is
+/// built once for all words. A refused call leaves the answers as they were lent.
+///
+/// ```
+/// use registered_automata::{accepts_words, Membership};
+///
+/// // c or e, any number of m, and then the first letter again
+/// let file = include_bytes!("../../samples/T.mlb");
+/// let mut work = registered_automata::working_words();
+/// let mut answers = [0; 10];
+/// let judged = accepts_words(file, b"cc\nce\neme\nc", b'\n', &mut work, &mut answers).unwrap();
+/// let accepted: Vec<bool> = answers[..judged.count].iter().map(|&a| Membership::from_answer(a).accepted).collect();
+/// assert_eq!(accepted, [true, false, true]);
+/// assert_eq!(judged.bytes, 10); // the last c has no newline
+/// ```
+///
+/// Refused, in this order: 24 with fewer than [`WORKING_WORDS`]; a fault of the file; 21.
+pub fn accepts_words(
+    file: &[u8],
+    words: &[u8],
+    separator: u8,
+    work: &mut [u64],
+    answers: &mut [u64],
+) -> Result<WordsJudged, Refusal> {
+    let r = unsafe {
+        engine::ra_accepts_words(
+            file.as_ptr(),
+            file.len(),
+            words.as_ptr(),
+            words.len(),
+            separator,
+            work.as_mut_ptr(),
+            work.len(),
+            answers.as_mut_ptr(),
+            answers.len(),
+        )
+    };
+    Refusal::unless(r.number, r.automaton)?;
+    Ok(WordsJudged {
+        count: r.count as usize,
+        bytes: r.bytes as usize,
     })
 }
 

@@ -99,6 +99,103 @@ fn try_accepts(seed: u64, r: &mut Random) {
     assert_eq!(answer, plain::accepts(&file, &word, lent), "seed {seed}");
 }
 
+/// Words of a file, one behind the other, each with the separator behind it but perhaps the last; and the separator, which may be a letter.
+fn many_words(r: &mut Random, letters: &[u8]) -> (Vec<u8>, u8) {
+    let separator = match r.below(4) {
+        0 if !letters.is_empty() => letters[r.below(letters.len())],
+        1 => r.next() as u8,
+        _ => b'\n',
+    };
+    let mut bytes = Vec::new();
+    for _ in 0..r.below(12) {
+        bytes.extend(random::word(r, letters));
+        bytes.push(separator);
+    }
+    if r.one_in(3) {
+        bytes.extend(random::word(r, letters));
+    }
+    (bytes, separator)
+}
+
+fn try_accepts_words(seed: u64, r: &mut Random) {
+    let letters = random::letters(r);
+    let mut file = random::file(r, &letters);
+    if r.one_in(10) {
+        file = random::damaged(r, file);
+    }
+    let (bytes, separator) = many_words(r, &letters);
+    let lent = if r.one_in(30) { 8191 } else { 8192 };
+    let mut work = words(r, lent);
+    let room = r.below(16);
+    let before = words(r, room);
+    let mut answers = before.clone();
+    let answer =
+        engine::accepts_words(&file, &bytes, separator, &mut work, &mut answers).map_err(refusal);
+    match (
+        answer,
+        plain::accepts_words(&file, &bytes, separator, lent, room),
+    ) {
+        (Ok(judged), Ok((each, taken))) => {
+            assert_eq!(
+                (judged.count, judged.bytes),
+                (each.len(), taken),
+                "seed {seed}"
+            );
+            let told: Vec<(bool, usize)> = answers[..judged.count]
+                .iter()
+                .map(|&answer| engine::Membership::from_answer(answer))
+                .map(|m| (m.accepted, m.live as usize))
+                .collect();
+            assert_eq!(told, each, "seed {seed}");
+            assert_eq!(
+                answers[judged.count..],
+                before[judged.count..],
+                "seed {seed}"
+            );
+        }
+        (Err(e), Err(f)) => {
+            assert_eq!(e, f, "seed {seed}");
+            assert_eq!(answers, before, "seed {seed}: answers after a refusal");
+        }
+        (answer, expected) => panic!("seed {seed}: {answer:?}, expected {expected:?}"),
+    }
+}
+
+/// The random words are of every kind: fewer answers than words, more, a rest that no separator ends, a separator that is a letter, and
+/// accepted words among them.
+#[test]
+fn many_words_of_every_kind_are_met() {
+    let mut met = BTreeMap::new();
+    for seed in 1..=600 {
+        let r = &mut Random::new(seed);
+        let letters = random::letters(r);
+        let file = random::file(r, &letters);
+        let (bytes, separator) = many_words(r, &letters);
+        let ended = bytes.iter().filter(|&&byte| byte == separator).count();
+        let accepted = plain::accepts_words(&file, &bytes, separator, 8192, ended)
+            .map_or(0, |(each, _)| each.iter().filter(|one| one.0).count());
+        let kinds = [
+            ("no word", ended == 0),
+            ("ten words", ended >= 10),
+            (
+                "a rest",
+                bytes.last().is_some_and(|&last| last != separator),
+            ),
+            ("a letter separates", letters.contains(&separator)),
+            ("an accepted word", accepted > 0),
+            (
+                "an empty word",
+                bytes.windows(2).any(|two| two == [separator; 2]),
+            ),
+        ];
+        for (kind, _) in kinds.iter().filter(|kind| kind.1) {
+            *met.entry(*kind).or_insert(0) += 1;
+        }
+    }
+    assert_eq!(met.len(), 6, "{met:?}");
+    assert!(met.values().all(|&times| times > 5), "{met:?}");
+}
+
 fn try_unfold(seed: u64, r: &mut Random) {
     let letters = random::letters(r);
     let file = random::file(r, &letters);
@@ -339,7 +436,7 @@ fn every_call_answers_as_the_plain_implementation() {
     let seeds = number_from("SEEDS", 4_000);
     for seed in first..first + seeds {
         let r = &mut Random::new(seed);
-        match r.below(10) {
+        match r.below(11) {
             0 => try_read(seed, r),
             1 => try_accepts(seed, r),
             2 => try_unfold(seed, r),
@@ -349,6 +446,7 @@ fn every_call_answers_as_the_plain_implementation() {
             6 => try_close(seed, r),
             7 => try_count_words(seed, r),
             8 => try_accepts_ranges(seed, r),
+            9 => try_accepts_words(seed, r),
             _ => try_compare(seed, r),
         }
     }

@@ -161,6 +161,12 @@ fn every_call_tells_which_field_of_an_arc_is_wrong() {
         let first = refusal(reason, Some(engine::Automaton::First));
         let second = refusal(reason, Some(engine::Automaton::Second));
         assert_eq!(engine::accepts(&file, b"cc", &mut work), Err(first));
+        let mut answers = [7; 3];
+        assert_eq!(
+            engine::accepts_words(&file, b"cc\n", b'\n', &mut work, &mut answers),
+            Err(first)
+        );
+        assert_eq!(answers, [7; 3]);
         assert_eq!(engine::count_words(&file, 3, &mut work), Err(first));
         assert_eq!(engine::accepts_ranges(&file, &[], &mut work), Err(first));
         assert_eq!(engine::unfold(&file, &mut work, &mut out), Err(first));
@@ -733,6 +739,16 @@ fn working_words_and_bytes_of_the_word() {
         let mut work = vec![u64::MAX; words];
         let mut word = [0; 512];
         assert_eq!(number(engine::accepts(&file, b"a", &mut work)), expected);
+        assert_eq!(
+            number(engine::accepts_words(
+                &file,
+                b"a\n",
+                b'\n',
+                &mut work,
+                &mut [0; 1]
+            )),
+            expected
+        );
         assert_eq!(number(engine::unfold(&file, &mut work, &mut out)), expected);
         assert_eq!(number(engine::count_words(&file, 2, &mut work)), expected);
         assert_eq!(

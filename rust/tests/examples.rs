@@ -184,3 +184,23 @@ fn herds_with_letters_of_their_own() {
         );
     }
 }
+
+/// A root is any of two, a pattern any of three forms in either of two voices: the joined file is what the intersection writes, and its words
+/// are the twelve that its list names.
+#[test]
+fn arabic_stems_are_roots_and_patterns() {
+    let mut out = vec![0; engine::LONGEST_FILE];
+    let n = engine::intersect(&file("arabic_roots"), &file("arabic_patterns"), &mut out)
+        .expect("within the limits");
+    assert_eq!(out[..n], file("arabic_stems"));
+    let stems = file("arabic_stems");
+    let counted: u64 = (0..=10)
+        .map(|length| {
+            engine::count_words(&stems, length, &mut engine::working_words())
+                .expect("within the limits")
+                .accepted
+        })
+        .sum();
+    let listed = words("arabic_stems").iter().filter(|w| w.0).count();
+    assert_eq!((counted, listed), (12, 12));
+}

@@ -63,7 +63,7 @@ fn the_fault_and_its_place_in_a_listing() {
         let text = String::from_utf8_lossy(&printed.stdout);
         let last = text.lines().last().unwrap_or("");
         match fault {
-            None => last == "no fault",
+            None => last == "-- no fault",
             Some(f) => last == format!("fault {}", told(f)),
         }
     });

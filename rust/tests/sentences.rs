@@ -34,3 +34,24 @@ fn those_of_the_header() {
         assert_eq!(value, Some(number.as_str()), "{sentence}");
     }
 }
+
+/// `ra_message` is text here: its cases by name, each with its string, which may stand in pieces.
+#[test]
+fn those_of_the_headers_function() {
+    let header = text("../c/registered_automata.h");
+    let body = &header[header.find("*ra_message(").expect("the function")..];
+    let body = body.split_whitespace().collect::<Vec<_>>().join(" ");
+    let body = body.replace("\" \"", "");
+    for r in Reason::ALL {
+        let number = format!(" = {}", r.number());
+        let name = header
+            .lines()
+            .map(|line| line.trim().trim_end_matches(','))
+            .find_map(|line| line.strip_suffix(&number).filter(|n| n.starts_with("RA_")))
+            .unwrap_or_else(|| panic!("no name of {}", r.number()));
+        let case = format!("case {name}: return \"{}\";", r.message());
+        assert!(body.contains(&case), "{case}");
+    }
+    assert_eq!(body.matches("case ").count(), Reason::ALL.len());
+    assert!(body.contains("default: return \"no such refusal\";"));
+}

@@ -1,10 +1,6 @@
 -- Results: the struct of each answer: the fields are what the answer tells, as the promises have it. A number of 0 says that nothing was
--- refused; a refusal leaves 0 in every field but its number, the automaton at fault and, of reading, the place.
+-- refused; a refusal leaves 0 in every field but its number and the automaton at fault.
 use mathlib.Core.Bool.{cond}
-use Rattle.file_fields.specs.declared.Reading.{Reading as ReadingAnswer}
-use Rattle.format.specs.Reading.{told as toldReading}
-use Rattle.table.specs.declared.Membership.{Membership as MembershipAnswer}
-use Rattle.table.specs.Membership.{told as toldMembership}
 use Rattle.file_writing.specs.declared.Written.{Written as WrittenAnswer}
 use Rattle.file_writing.specs.Answers.{told as toldWritten}
 use Rattle.compare_promise.specs.declared.Comparison.{Comparison as ComparisonAnswer}
@@ -14,30 +10,9 @@ use Rattle.count_promise.specs.WordCounts.{told as toldWordCount}
 use Rattle.ranges_promise.specs.declared.Ranged.{Ranged as RangedAnswer}
 use Rattle.ranges_promise.specs.RangeAnswers.{told as toldRanged}
 use Rattle.registered_automata.specs.declared.results.Comparison.{Comparison}
-use Rattle.registered_automata.specs.declared.results.Reading.{Reading}
-use Rattle.registered_automata.specs.declared.results.Membership.{Membership}
 use Rattle.registered_automata.specs.declared.results.Ranged.{Ranged}
 use Rattle.registered_automata.specs.declared.results.WordCount.{WordCount}
 use Rattle.registered_automata.specs.declared.results.Written.{Written}
-
--- of reading
-abbrev pub readingFields : ReadingAnswer → Reading
-readingFields r =
-    let t = toldReading r in
-    record {
-      letters = t .counts .letters;
-      states = t .counts .states;
-      registers = t .counts .registers;
-      symbols = t .counts .symbols;
-      arcs = t .counts .arcs;
-      place = t .place;
-      number = t .number;
-      automaton = t .at-fault;
-    }
-
--- of membership; 1 stands for accepted
-abbrev pub membershipFields : MembershipAnswer → Membership
-membershipFields r = let t = toldMembership r in record { live = t .live; number = t .number; automaton = t .at-fault; accepted = cond (t .accepted) 1 0 }
 
 -- of a call that writes a file
 abbrev pub writtenFields : WrittenAnswer → Written

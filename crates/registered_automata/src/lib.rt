@@ -1,5 +1,6 @@
 // registered_automata: the calls for programs in C, Rust and other languages, as functions of a static library.
-// A slice is a pointer and a length. c/registered_automata.h says what a caller needs to know of each.
+// A slice is a pointer and a length. c/registered_automata.h says what a caller needs to know of each. Reading and membership are those of the
+// crate `scanner`, which is such a library by itself.
 ghost use mathlib.Core.Path.{_≡_};
 ghost use lib.ListN.{length};
 ghost use Rattle.automata.specs.Joins.{union, concatenation, intersection, closure};
@@ -8,25 +9,26 @@ ghost use Rattle.format.specs.Decoding.{automatonOf};
 ghost use Rattle.format.specs.Encoding.{bytesOf};
 ghost use Rattle.format.specs.Reading.{readingOf};
 ghost use Rattle.table.specs.Membership.{membershipOf};
+ghost use Rattle.table_words.specs.Words.{answered, answersOf, judgedOf, wordsIn};
+ghost use Rattle.scanner.specs.Results.{readingFields, membershipFields, judgedFields};
 ghost use Rattle.file_writing.specs.Answers.{outputOf};
 ghost use Rattle.join_parts.specs.Joining.{closedOf, joinOf, joinedOf};
 ghost use Rattle.unfold.specs.Unfolding.{unfoldingOf};
 ghost use Rattle.compare_promise.specs.Comparing.{bufferOf, comparisonOf, shownWord};
 ghost use Rattle.count_promise.specs.WordCounts.{wordCountOf};
 ghost use Rattle.ranges_promise.specs.RangeAnswers.{rangedOf};
-ghost use Rattle.registered_automata.specs.Results.{readingFields, membershipFields, writtenFields, comparisonFields, wordCountFields, rangedFields};
+ghost use Rattle.registered_automata.specs.Results.{writtenFields, comparisonFields, wordCountFields, rangedFields};
 use results::Comparison;
-use results::Membership;
 use results::Ranged;
-use results::Reading;
 use results::WordCount;
 use results::Written;
 use results::as_comparison;
-use results::as_membership;
 use results::as_ranged;
-use results::as_reading;
 use results::as_word_count;
 use results::as_written;
+use scanner::results::Membership;
+use scanner::results::Reading;
+use scanner::results::WordsJudged;
 
 pub mod results;
 
@@ -35,7 +37,7 @@ pub mod results;
 pub extern "C" fn ra_read(file: &[u8]) -> Reading
     ensures { λ r. ⌜ r ≡ readingFields (readingOf (now (file .entry))) ⌝ }
 {
-    as_reading(format::read(file))
+    scanner::ra_read(file)
 }
 
 // Does the automaton of the file accept the word? Refusals and cost: `table::accepts`.
@@ -44,7 +46,24 @@ pub extern "C" fn ra_accepts(file: &[u8], word: &[u8], work: &mut [u64]) -> Memb
     ensures same { λ _. ⌜ length (now (work .exit)) ≡ length (now (work .entry)) ⌝ }
     ensures answer { λ r. ⌜ r ≡ membershipFields (membershipOf (now (file .entry)) (now (word .entry)) (length (now (work .entry)))) ⌝ }
 {
-    as_membership(table::accepts(file, word, work))
+    scanner::ra_accepts(file, word, work)
+}
+
+// Which words, one behind the other and each with the separator behind it, does the automaton of the file accept? Refusals and cost:
+// `table_words::accepts_words`.
+#[no_mangle]
+pub extern "C" fn ra_accepts_words(
+    file: &[u8],
+    words: &[u8],
+    separator: u8,
+    work: &mut [u64],
+    answers: &mut [u64],
+) -> WordsJudged
+    ensures same { λ _. ⌜ length (now (work .exit)) ≡ length (now (work .entry)) ⌝ }
+    ensures answer { λ r. ⌜ r ≡ judgedFields (judgedOf (now (file .entry)) (now (words .entry)) separator (length (now (work .entry))) (length (now (answers .entry)))) ⌝ }
+    ensures answers { λ _. ⌜ now (answers .exit) ≡ answered (judgedOf (now (file .entry)) (now (words .entry)) separator (length (now (work .entry))) (length (now (answers .entry)))) (answersOf (now (file .entry)) (wordsIn separator (length (now (answers .entry))) (now (words .entry))) (length (now (work .entry)))) (now (answers .entry)) ⌝ }
+{
+    scanner::ra_accepts_words(file, words, separator, work, answers)
 }
 
 // Writes the automaton without registers that accepts the same words. Refusals and cost: `unfold::unfold`.

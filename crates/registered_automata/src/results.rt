@@ -1,30 +1,6 @@
 // The answers as other languages take them: structs of numbers with the layout of C, and the struct that tells each answer.
 ghost use mathlib.Core.Path.{_≡_};
-ghost use Rattle.registered_automata.specs.Results.{readingFields, membershipFields, writtenFields, comparisonFields, wordCountFields, rangedFields};
-
-// The counts of a valid file, with number 0; or the number of the fault, its place in bytes from the file's start, the automaton at
-// fault, which is 1, and counts of 0.
-#[repr(C)]
-pub struct Reading {
-    pub letters: u64,
-    pub states: u64,
-    pub registers: u64,
-    pub symbols: u64,
-    pub arcs: u64,
-    pub place: u64,
-    pub number: u8,
-    pub automaton: u8,
-}
-
-// How many configurations are live after the word, and 1 where it is accepted, else 0, with number 0; or the number of the
-// refusal and the automaton at fault, and 0 elsewhere.
-#[repr(C)]
-pub struct Membership {
-    pub live: u64,
-    pub number: u8,
-    pub automaton: u8,
-    pub accepted: u8,
-}
+ghost use Rattle.registered_automata.specs.Results.{writtenFields, comparisonFields, wordCountFields, rangedFields};
 
 // The length of the file that was written, with number 0; or the number of the refusal, the automaton at fault, and length 0.
 #[repr(C)]
@@ -62,60 +38,6 @@ pub struct Ranged {
     pub number: u8,
     pub automaton: u8,
     pub answer: u8,
-}
-
-// The struct of what reading answers. Cost: constant.
-pub fn as_reading(r: format::Reading) -> Reading
-    ensures { λ x. ⌜ x ≡ readingFields r ⌝ }
-{
-    match r {
-        format::Reading::Valid(c) => Reading {
-            letters: c.letters as u64,
-            states: c.states as u64,
-            registers: c.registers as u64,
-            symbols: c.symbols as u64,
-            arcs: c.arcs as u64,
-            place: 0,
-            number: 0,
-            automaton: 0,
-        },
-        format::Reading::Refused(n, place) => Reading {
-            letters: 0,
-            states: 0,
-            registers: 0,
-            symbols: 0,
-            arcs: 0,
-            place: place as u64,
-            number: n,
-            automaton: 1,
-        },
-    }
-}
-
-// The struct of what membership answers. Cost: constant.
-pub fn as_membership(r: table::Membership) -> Membership
-    ensures { λ x. ⌜ x ≡ membershipFields r ⌝ }
-{
-    match r {
-        table::Membership::Accepted(n) => Membership {
-            live: n,
-            number: 0,
-            automaton: 0,
-            accepted: 1,
-        },
-        table::Membership::Rejected(n) => Membership {
-            live: n,
-            number: 0,
-            automaton: 0,
-            accepted: 0,
-        },
-        table::Membership::Refused(n, b) => Membership {
-            live: 0,
-            number: n,
-            automaton: b,
-            accepted: 0,
-        },
-    }
 }
 
 // The struct of what a call that writes a file answers. Cost: constant.

@@ -7,5 +7,6 @@ pub mod Opening
 pub mod PlainFits
 pub mod FaceLaws
 pub mod Standing
+pub mod JudgingLaws
 pub mod Promise
 pub mod Laws

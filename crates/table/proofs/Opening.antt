@@ -102,6 +102,10 @@ module _ {file : List ℕ} {c : Counts} {w : List ℕ} {block : Block} (h : Hold
   pub holds-plain : block .plain ≡ length (plainArcs (automatonOf file) 256)
   holds-plain = explored-few (automatonOf file) 256 (block .count) (block .plain) (h .explored .answer) .2
 
+  -- so it is the block that opening answers
+  pub holds-block : Open c block ≡ Open c (blockOf 256 file)
+  holds-block = λ i. Open c (record { base = h .first i; count = holds-count i; plain = holds-plain i })
+
   pub holds-valid : readingOf file ≡ Valid c
   holds-valid = h .valid
 

@@ -2,14 +2,15 @@
 ghost use mathlib.Core.Path.{_≡_};
 ghost use lib.ListN.{length};
 ghost use Rattle.table.specs.Membership.{membershipOf};
+ghost use Rattle.table.specs.Judging.{PreparedBy};
 ghost use Rattle.table.specs.Opening.{openedOf, HeldBy};
 use format::Counts;
-use judging::judge_word;
+use judging::judge;
+use judging::make_ready;
 use table_explore::Explored;
 use table_explore::walk::explore_all;
 use word_layout::Block;
 use word_layout::FIRST_BLOCK;
-use word_rows::close_rows;
 
 pub mod block;
 pub mod face;
@@ -49,6 +50,19 @@ pub fn open_file(file: &[u8], work: &mut [u64]) -> Opened
     Opened::Open(c, block)
 }
 
+// The file is opened and made ready for words to be judged by `judging::judge`, as many as there are: the table is built once. Refuses what
+// opening the file does.
+// Cost: that of `open_file` and of `judging::make_ready`.
+pub fn prepare(file: &[u8], work: &mut [u64]) -> Opened
+    ensures same { λ _. ⌜ length (now (work .exit)) ≡ length (now (work .entry)) ⌝ }
+    ensures ready { λ r. ⌜ PreparedBy (now (file .entry)) (length (now (work .entry))) (now (work .exit)) r ⌝ }
+{
+    match open_file(file, work) {
+        Opened::Refused(number, at_fault) => Opened::Refused(number, at_fault),
+        Opened::Open(c, block) => Opened::Open(c, make_ready(file, c, work, block)),
+    }
+}
+
 // What membership answers: whether the word is accepted, with the number of configurations live after it; or the number of a
 // refusal and the automaton at fault.
 pub enum Membership {
@@ -70,11 +84,8 @@ pub fn accepts(file: &[u8], word: &[u8], work: &mut [u64]) -> Membership
     ensures same { λ _. ⌜ length (now (work .exit)) ≡ length (now (work .entry)) ⌝ }
     ensures answer { λ r. ⌜ r ≡ membershipOf (now (file .entry)) (now (word .entry)) (length (now (work .entry))) ⌝ }
 {
-    match open_file(file, work) {
+    match prepare(file, work) {
         Opened::Refused(number, at_fault) => Membership::Refused(number, at_fault),
-        Opened::Open(c, block) => {
-            close_rows(work, block.base, block.count);
-            judge_word(file, c, word, work, block)
-        }
+        Opened::Open(c, block) => judge(file, c, word, work, block),
     }
 }

@@ -1,5 +1,6 @@
-pub mod NoteSources
-pub mod LinkLetters
-pub mod FollowLetter
+pub mod Sources
 pub mod LetteredFrame
+pub mod LinkLetters
+pub mod FollowChain
+pub mod FollowSources
 pub mod Laws

@@ -1,3 +1,4 @@
 pub mod StepFrame
+pub mod LetterTable
 pub mod WalkWord
 pub mod Laws

@@ -1,42 +1,68 @@
--- WalkWord: the live set of a word of bytes, one byte after the other.
-use mathlib.Core.Path.{_∙_, _≡_, ap, refl, subst, sym}
-use mathlib.Core.Logic.{inr}
-use mathlib.Core.Bool.{Bool, false}
+-- WalkWord: the live set of a word of bytes, one byte after the other, whatever takes the steps.
+use mathlib.Core.Path.{_∙_, _≡_, ap, ap₂, refl, subst, sym}
+use mathlib.Core.Bool.{Bool, _&&_, _||_, false, true}
 use mathlib.Core.List.{List, [], _∷_}
 use mathlib.Core.Option.{Option, Option·map, none, some}
-use Prim.Native.Nat.{_+_, _<_, _≤_, ℕ}
+use Prim.Native.Nat.{_+_, _<_, _≤_, suc, zero, ℕ}
 use native.Mathlib.Numerals.{add-one}
-use native.Mathlib.Omega.{arith}
 use lib.Dec.{T}
 use lib.ListN.{drop, drop-of-length-le, getD, length}
 use lib.Seq.{drop-cons}
-use Rattle.automata.specs.Live.{PlainArc, byLetter, liveFrom, table}
+use Rattle.automata.specs.Live.{PlainArc, byLetter, epsilonClosure, hit, in?, liveFrom, once, rounds, step, table}
+use Rattle.automata.specs.Lists.{any}
 use Rattle.automata.specs.Unfolding.{spelledOr}
 use Rattle.automata.specs.Words.{letterWith, spelling}
-use Rattle.automata.proofs.Laws.{letter-lt}
-use Rattle.file_fields.specs.Letters.{letterTold}
-use Rattle.file_fields.specs.Parts.{letterBytes}
-use Rattle.file_fields.specs.declared.Counts.{Counts}
-use Rattle.file_fields.specs.declared.letters.Letter.the-variants.{At, None}
-use Rattle.file_fields.proofs.Laws.{letters-length}
-use Rattle.word_fields.specs.Frame.{Kept}
-use Rattle.word_fields.proofs.Laws.{kept-same, kept-then}
+use Rattle.automata.proofs.Laws.{bool-ext}
 use Rattle.word_sets.specs.Sets.{εClosedSet, inSet, view}
 use Rattle.word_sets.proofs.Laws.{empty-set, in-view, table-ext}
-use Rattle.table_live.specs.Steps.{Outgoing, Steppable, liveBytes}
-use Rattle.table_live.proofs.StepFrame.{outgoing-kept}
-use Rattle.table_file_steps.proofs.Laws.{map-kept}
-use Rattle.word_layout.specs.Layout.{firstSets}
-use Rattle.word_layout.specs.declared.Block.{Block}
+use Rattle.table_live.specs.Steps.{liveBytes}
 
--- ---- the letter that a byte stands for, as code answers it
-pub told-letter : (o : Option ℕ) (l : ℕ) → letterTold o ≡ At l → o ≡ some l
-told-letter none l e = cc
-told-letter (some k) l e = let q : k ≡ l = cc in ap some q
+-- the set of `count` configurations that has none of them
+abbrev nothing : ℕ → List Bool
+nothing count = table count (λ _. false)
 
-pub told-none : (o : Option ℕ) → letterTold o ≡ None → o ≡ none
-told-none none e = refl
-told-none (some k) e = cc
+-- ---- where nothing is live, nothing is live behind any word
+in-nothing : (count j : ℕ) → in? (nothing count) j ≡ false
+unfolding table
+in-nothing zero j = refl
+in-nothing (suc count) zero = refl
+in-nothing (suc count) (suc j) = in-nothing count j
+
+module _ (arcs : List PlainArc) (count : ℕ) where
+  hit-nothing : (α : Option ℕ) (j : ℕ) → hit arcs α (nothing count) j ≡ false
+  unfolding hit any
+  hit-nothing α j = go arcs
+    where
+      never : (x y : Bool) → (x && y && false) ≡ false
+      never true true = refl
+      never true false = refl
+      never false y = refl
+
+      go : (l : List PlainArc) → hit l α (nothing count) j ≡ false
+      go [] = refl
+      go (a ∷ l) = rw (in-nothing count (a .source), never, go l)
+
+  rounds-nothing : (n : ℕ) → rounds count arcs n (nothing count) ≡ nothing count
+  unfolding rounds once
+  rounds-nothing zero = refl
+  rounds-nothing (suc n) = rw (rounds-nothing n) (table-ext count (λ j h. ap₂ (λ (x y : Bool). x || y) (in-nothing count j) (hit-nothing none j)))
+
+  by-nothing : (l : ℕ) → byLetter count arcs (nothing count) l ≡ nothing count
+  unfolding byLetter epsilonClosure step
+  by-nothing l = ap (rounds count arcs count) (table-ext count (λ j h. hit-nothing (some l) j)) ∙ rounds-nothing count
+
+  from-nothing : (v : List ℕ) → liveFrom count arcs (nothing count) v ≡ nothing count
+  unfolding liveFrom
+  from-nothing [] = refl
+  from-nothing (l ∷ v) = ap (λ (S : List Bool). liveFrom count arcs S v) (by-nothing l) ∙ from-nothing v
+
+  live-nothing : (alphabet s : List ℕ) → liveBytes alphabet arcs count (nothing count) s ≡ nothing count
+  unfolding liveBytes
+  live-nothing alphabet s = go (spelling alphabet s)
+    where
+      go : (o : Option (List ℕ)) → spelledOr (nothing count) (liveFrom count arcs (nothing count)) o ≡ nothing count
+      go none = refl
+      go (some v) = from-nothing v
 
 -- ---- the live set of a word of bytes
 module _ (alphabet : List ℕ) (arcs : List PlainArc) (count : ℕ) where
@@ -49,65 +75,65 @@ module _ (alphabet : List ℕ) (arcs : List PlainArc) (count : ℕ) where
   unfolding liveBytes spelling liveFrom
   live-letter S b l s e = rw e (go (spelling alphabet s))
     where
-      nothing : List Bool
-      nothing = table count (λ _. false)
-
-      go : (o : Option (List ℕ)) → spelledOr nothing (liveFrom count arcs S) (Option·map (λ w. l ∷ w) o) ≡ spelledOr nothing (liveFrom count arcs (byLetter count arcs S l)) o
+      go : (o : Option (List ℕ)) → spelledOr (nothing count) (liveFrom count arcs S) (Option·map (λ w. l ∷ w) o) ≡ spelledOr (nothing count) (liveFrom count arcs (byLetter count arcs S l)) o
       go none = refl
       go (some v) = refl
 
   -- a byte that is no letter leaves nothing live
-  live-foreign : (S : List Bool) (b : ℕ) (s : List ℕ) → letterWith alphabet b ≡ none → liveBytes alphabet arcs count S (b ∷ s) ≡ table count (λ _. false)
+  live-foreign : (S : List Bool) (b : ℕ) (s : List ℕ) → letterWith alphabet b ≡ none → liveBytes alphabet arcs count S (b ∷ s) ≡ nothing count
   unfolding liveBytes spelling
   live-foreign S b s e = rw e
 
--- the set with nothing in it, which no empty move leaves
-empty-view : (count : ℕ) (arcs : List PlainArc) → (view count (0 ∷ 0 ∷ 0 ∷ 0 ∷ []) ≡ table count (λ _. false)) × εClosedSet count arcs (0 ∷ 0 ∷ 0 ∷ 0 ∷ [])
+-- a set with no member, which no empty move leaves
+empty-view : (count : ℕ) (set : List ℕ) → ((j : ℕ) → ¬ T (inSet set j)) → view count set ≡ nothing count
 unfolding view
-empty-view count arcs = (table-ext count (λ j h. empty-set j), (λ j t. absurd (nobody j t), λ i j t m. absurd (nobody i ((in-view count (0 ∷ 0 ∷ 0 ∷ 0 ∷ []) i) .0 t .1))))
+empty-view count set nobody = table-ext count (λ j h. bool-ext (inSet set j) false (λ t. absurd (nobody j t)) (λ t. absurd t))
+
+abbrev zeros : List ℕ
+zeros = 0 ∷ 0 ∷ 0 ∷ 0 ∷ []
+
+zeros-closed : (count : ℕ) (arcs : List PlainArc) → (view count zeros ≡ nothing count) × εClosedSet count arcs zeros
+zeros-closed count arcs = (empty-view count zeros nobody, (λ j t. absurd (nobody j t), λ i j t m. absurd (nobody i ((in-view count zeros i) .0 t .1))))
   where
-    nobody : (j : ℕ) → ¬ T (inSet (0 ∷ 0 ∷ 0 ∷ 0 ∷ []) j)
+    nobody : (j : ℕ) → ¬ T (inSet zeros j)
     nobody j t = subst T (empty-set j) t
 
--- ---- the loop: the words are as they were but for the sets of the letters, and what is left of the word leads from `set` where the
--- whole word leads from set₀
-pub record Walking (file : List ℕ) (c : Counts) (word w₀ : List ℕ) (block : Block) (set₀ w set : List ℕ) (i : ℕ) : Type 0 where
-  pub few : i ≤ length word
-  pub kept : Kept firstSets (firstSets + 256) w₀ w
-  pub live : (arcs : List PlainArc) → Outgoing file c w₀ block arcs → εClosedSet (block .count) arcs set₀
-      → (liveBytes (letterBytes c file) arcs (block .count) (view (block .count) set₀) word ≡ liveBytes (letterBytes c file) arcs (block .count) (view (block .count) set) (drop i word)) × εClosedSet (block .count) arcs set
+-- ---- a walk: what is left of the word leads from `set` where the whole word leads from set₀
+pub record Walking (alphabet : List ℕ) (arcs : List PlainArc) (count : ℕ) (word set₀ set : List ℕ) (i : ℕ) : Type 0 where
+  pub live : liveBytes alphabet arcs count (view count set₀) word ≡ liveBytes alphabet arcs count (view count set) (drop i word)
+  pub closed : εClosedSet count arcs set
 
-pub walking-start : (file : List ℕ) (c : Counts) (word w : List ℕ) (block : Block) (set : List ℕ) → Walking file c word w block set w set 0
-walking-start file c word w block set = record { few = omega arith; kept = kept-same firstSets (firstSets + 256) w; live = λ arcs o s. (refl, s) }
+-- `set` is the live set of the word, from set₀ on
+abbrev pub Walked : (alphabet : List ℕ) (arcs : List PlainArc) (count : ℕ) (word set₀ set : List ℕ) → Type 0
+Walked alphabet arcs count word set₀ set = (view count set ≡ liveBytes alphabet arcs count (view count set₀) word) × εClosedSet count arcs set
 
-module _ {file : List ℕ} {c : Counts} {word w₀ w : List ℕ} {block : Block} {set₀ set : List ℕ} {i : ℕ} (v : Walking file c word w₀ block set₀ w set i) where
-  abbrev alphabet : List ℕ
-  alphabet = letterBytes c file
+pub walking-start : {alphabet : List ℕ} {arcs : List PlainArc} {count : ℕ} {word set : List ℕ} → εClosedSet count arcs set → Walking alphabet arcs count word set set 0
+walking-start closed = record { live = refl; closed = closed }
 
+module _ {alphabet : List ℕ} {arcs : List PlainArc} {count : ℕ} {word set₀ set : List ℕ} {i : ℕ} (v : Walking alphabet arcs count word set₀ set i) where
   rest : i < length word → drop i word ≡ getD word i 0 ∷ drop (i + 1) word
   rest h = rw (add-one i) (drop-cons word i 0 h)
 
-  -- a turn with a letter
-  pub walking-more : {w' next : List ℕ} {l : ℕ} → Steppable file c w₀ block firstSets → i < length word → letterWith (letterBytes c file) (getD word i 0) ≡ some l → Kept firstSets (firstSets + 256) w w'
-      → ((arcs : List PlainArc) → Outgoing file c w block arcs → εClosedSet (block .count) arcs set → l < c .letters → (view (block .count) next ≡ byLetter (block .count) arcs (view (block .count) set) l) × εClosedSet (block .count) arcs next)
-      → Walking file c word w₀ block set₀ w' next (i + 1)
-  walking-more {l = l} s h e k f = record {
-    few = omega arith;
-    kept = kept-then (v .kept) k;
-    live = λ arcs o z.
-        let p = v .live arcs o z in
-        let same = map-kept block (inr (omega arith)) (s .room .apart) (s .findable .configured .few) (v .kept) in
-        let q = f arcs (outgoing-kept same o) (p .1) (omega (arith, letter-lt alphabet (getD word i 0) l e, letters-length c file (omega (arith, s .walkable .lies .fits)))) in
-        (p .0 ∙ rw (rest h) (live-letter alphabet arcs (block .count) (view (block .count) set) (getD word i 0) l (drop (i + 1) word) e) ∙ ap (λ (S : List Bool). liveBytes alphabet arcs (block .count) S (drop (i + 1) word)) (sym (q .0)), q .1);
+  -- a step by a letter
+  pub walking-more : {next : List ℕ} {l : ℕ} → i < length word → letterWith alphabet (getD word i 0) ≡ some l → (view count next ≡ byLetter count arcs (view count set) l) × εClosedSet count arcs next
+      → Walking alphabet arcs count word set₀ next (i + 1)
+  walking-more {l = l} h e q = record {
+    live = v .live ∙ rw (rest h) (live-letter alphabet arcs count (view count set) (getD word i 0) l (drop (i + 1) word) e) ∙ ap (λ (S : List Bool). liveBytes alphabet arcs count S (drop (i + 1) word)) (sym (q .0));
+    closed = q .1;
   }
 
   -- a byte that is no letter
-  pub walking-foreign : i < length word → letterWith (letterBytes c file) (getD word i 0) ≡ none → (arcs : List PlainArc) → Outgoing file c w₀ block arcs → εClosedSet (block .count) arcs set₀
-      → (view (block .count) (0 ∷ 0 ∷ 0 ∷ 0 ∷ []) ≡ liveBytes (letterBytes c file) arcs (block .count) (view (block .count) set₀) word) × εClosedSet (block .count) arcs (0 ∷ 0 ∷ 0 ∷ 0 ∷ [])
-  walking-foreign h e arcs o z =
-      let m = empty-view (block .count) arcs in
-      (m .0 ∙ sym (v .live arcs o z .0 ∙ rw (rest h) (live-foreign alphabet arcs (block .count) (view (block .count) set) (getD word i 0) (drop (i + 1) word) e)), m .1)
+  pub walking-foreign : i < length word → letterWith alphabet (getD word i 0) ≡ none → Walked alphabet arcs count word set₀ (0 ∷ 0 ∷ 0 ∷ 0 ∷ [])
+  walking-foreign h e =
+      let z = zeros-closed count arcs in
+      (z .0 ∙ sym (v .live ∙ rw (rest h) (live-foreign alphabet arcs count (view count set) (getD word i 0) (drop (i + 1) word) e)), z .1)
 
-  pub walking-end : length word ≤ i → (arcs : List PlainArc) → Outgoing file c w₀ block arcs → εClosedSet (block .count) arcs set₀
-      → (view (block .count) set ≡ liveBytes (letterBytes c file) arcs (block .count) (view (block .count) set₀) word) × εClosedSet (block .count) arcs set
-  walking-end h arcs o z = let p = v .live arcs o z in (sym (p .0 ∙ rw (drop-of-length-le word h) (live-end alphabet arcs (block .count) (view (block .count) set))), p .1)
+  -- nothing is live any more, whatever is left of the word
+  pub walking-nothing : ((j : ℕ) → ¬ T (inSet set j)) → Walked alphabet arcs count word set₀ (0 ∷ 0 ∷ 0 ∷ 0 ∷ [])
+  walking-nothing nobody =
+      let z = zeros-closed count arcs in
+      (z .0 ∙ sym (v .live ∙ ap (λ (S : List Bool). liveBytes alphabet arcs count S (drop i word)) (empty-view count set nobody) ∙ live-nothing arcs count alphabet (drop i word)), z .1)
+
+  -- the end of the word
+  pub walking-end : length word ≤ i → Walked alphabet arcs count word set₀ set
+  walking-end h = (sym (v .live ∙ rw (drop-of-length-le word h) (live-end alphabet arcs count (view count set))), v .closed)

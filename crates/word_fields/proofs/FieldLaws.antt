@@ -3,15 +3,15 @@ use mathlib.Core.Path.{_≡_, refl, sym, ap, ap₂, _∙_}
 use mathlib.Core.Bool.{cond}
 use mathlib.Core.Logic.{_≢_}
 use mathlib.Core.List.{List}
-use Prim.Native.Nat.{ℕ, zero, suc, _+_, _*_, _/_, _%_, _^_, _≤_, _<_}
-use native.Mathlib.Nat.{mul-assoc, zero-div, div-add-mod'}
+use Prim.Native.Nat.{ℕ, zero, suc, _+_, _-_, _*_, _/_, _%_, _^_, _≤_, _<_}
+use native.Mathlib.Nat.{mul-assoc, zero-div}
 use native.Mathlib.Decide.{ℕ-discrete}
 use native.Mathlib.Omega.{arith}
 use borrow.Author.Tests.{eq-eqb, ne-eqb}
 use lib.Dec.{eqb}
 use lib.ListN.{length, getD, set}
 use lib.Pow.{pow-add, shr-shr, shl-exact}
-use lib.Bits.{bitXor, differ, xor-step, xor-zero-r, xor-shr, xor-mod}
+use lib.Bits.{bitAnd, bitOr, and-zero-r, or-zero-r, and-mask, and-shr, and-mod, or-shr, or-mod}
 use lib.Seq.{getD-set-same, getD-set-other}
 use Rattle.word_fields.specs.Frame.{Kept}
 use Rattle.word_fields.specs.Fields.{field}
@@ -22,12 +22,12 @@ use Rattle.word_fields.proofs.FrameLaws.{kept-same, kept-then, kept-wid
 abbrev pub digitOf : ℕ → ℕ → ℕ
 digitOf x q = x / 2 ^ (16 * q) % 65536
 
--- in which binary digits it differs from v
-abbrev changeOf : ℕ → ℕ → ℕ → ℕ
-changeOf x q v = bitXor (x / 2 ^ (16 * q)) v % 65536
+-- digit q all zeros, the others all ones
+abbrev maskOf : ℕ → ℕ
+maskOf q = (2 ^ 64 - 1) - 65535 * 2 ^ (16 * q) % 2 ^ 64
 
 abbrev pub putOf : ℕ → ℕ → ℕ → ℕ
-putOf x q v = bitXor x (changeOf x q v * 2 ^ (16 * q) % 2 ^ 64)
+putOf x q v = bitOr (bitAnd x (maskOf q)) (v * 2 ^ (16 * q) % 2 ^ 64)
 
 at-suc : (v q : ℕ) → v * 2 ^ (16 * suc q) ≡ v * 2 ^ (16 * q) * 65536
 at-suc v q = let e : 16 * suc q ≡ 16 * q + 16 = omega arith in ap (λ (n : ℕ). v * n) (ap (λ (n : ℕ). 2 ^ n) e ∙ pow-add 2 (16 * q) 16) ∙ sym (mul-assoc v (2 ^ (16 * q)) 65536)
@@ -54,46 +54,47 @@ placed-other d zero (suc p) h n =
 placed-other d (suc q) zero h n = omega (arith, at-suc d q)
 placed-other d (suc q) (suc p) h n = placed-suc d q p ∙ placed-other d q p h (λ s. n (ap suc s))
 
--- ---- turning digits over
-
-turned-twice : (x y : ℕ) → x < 2 → y < 2 → differ x (bitXor x y) ≡ y
-turned-twice zero zero h g = refl
-turned-twice zero (suc zero) h g = refl
-turned-twice (suc zero) zero h g = refl
-turned-twice (suc zero) (suc zero) h g = refl
-turned-twice zero (suc (suc y)) h g = absurd (omega arith)
-turned-twice (suc zero) (suc (suc y)) h g = absurd (omega arith)
-turned-twice (suc (suc x)) y h g = absurd (omega arith)
-
-xor-twice : (k a b : ℕ) → a < 2 ^ k → b < 2 ^ k → bitXor a (bitXor a b) ≡ b
-xor-twice zero a b h g = let e : a ≡ 0 = omega arith in let f : b ≡ 0 = omega arith in rw (e, f)
-xor-twice (suc k) a b h g =
-    xor-step a (bitXor a b)
-    ∙ ap₂ (λ (x y : ℕ). x * 2 + y)
-    (ap (bitXor (a / 2)) (xor-shr a b 1) ∙ xor-twice k (a / 2) (b / 2) (omega arith) (omega arith))
-    (ap (differ (a % 2)) (xor-mod a b 1) ∙ turned-twice (a % 2) (b % 2) (omega arith) (omega arith))
-    ∙ div-add-mod' b 2
-
-digit-xor : (a b p : ℕ) → digitOf (bitXor a b) p ≡ bitXor (digitOf a p) (digitOf b p)
-digit-xor a b p = ap (λ (y : ℕ). y % 65536) (xor-shr a b (16 * p)) ∙ xor-mod (a / 2 ^ (16 * p)) (b / 2 ^ (16 * p)) 16
-
 -- a digit that is shifted to its place in a word of four loses nothing
 shifted : (v q : ℕ) → v < 65536 → q < 4 → v * 2 ^ (16 * q) % 2 ^ 64 ≡ v * 2 ^ (16 * q)
 shifted v q h g = shl-exact {a = v} 16 (16 * q) 64 h (omega arith)
 
-module _ (x q v : ℕ) (g : q < 4) where
-  put-digit : (p : ℕ) → digitOf (putOf x q v) p ≡ bitXor (digitOf x p) (digitOf (changeOf x q v * 2 ^ (16 * q)) p)
-  put-digit p = rw (shifted (changeOf x q v) q (omega arith) g) (digit-xor x (changeOf x q v * 2 ^ (16 * q)) p)
+-- ---- clearing a digit, and writing it
 
-  put-same : v < 65536 → digitOf (putOf x q v) q ≡ v
-  put-same h =
-      let e : v % 65536 ≡ v = omega arith in
-      put-digit q
-      ∙ ap (bitXor (digitOf x q)) (placed-same (changeOf x q v) q (omega arith) ∙ xor-mod (x / 2 ^ (16 * q)) v 16 ∙ ap (bitXor (digitOf x q)) e)
-      ∙ xor-twice 16 (digitOf x q) v (omega arith) h
+digit-and : (a b p : ℕ) → digitOf (bitAnd a b) p ≡ bitAnd (digitOf a p) (digitOf b p)
+digit-and a b p = ap (λ (y : ℕ). y % 65536) (and-shr a b (16 * p)) ∙ and-mod (a / 2 ^ (16 * p)) (b / 2 ^ (16 * p)) 16
 
-  put-other : (p : ℕ) → p ≢ q → digitOf (putOf x q v) p ≡ digitOf x p
-  put-other p n = put-digit p ∙ ap (bitXor (digitOf x p)) (placed-other (changeOf x q v) q p (omega arith) n) ∙ xor-zero-r (digitOf x p)
+digit-or : (a b p : ℕ) → digitOf (bitOr a b) p ≡ bitOr (digitOf a p) (digitOf b p)
+digit-or a b p = ap (λ (y : ℕ). y % 65536) (or-shr a b (16 * p)) ∙ or-mod (a / 2 ^ (16 * p)) (b / 2 ^ (16 * p)) 16
+
+-- what holds of each of the four digits
+each : (P : ℕ → Type 0) → P 0 → P 1 → P 2 → P 3 → (q : ℕ) → q < 4 → P q
+each P a b c d zero h = a
+each P a b c d (suc zero) h = b
+each P a b c d (suc (suc zero)) h = c
+each P a b c d (suc (suc (suc zero))) h = d
+each P a b c d (suc (suc (suc (suc q)))) h = absurd (omega arith)
+
+mask-digit : (q : ℕ) → q < 4 → (p : ℕ) → p < 4 → digitOf (maskOf q) p ≡ cond (eqb p q) 0 65535
+mask-digit =
+    each (λ q. (p : ℕ) → p < 4 → digitOf (maskOf q) p ≡ cond (eqb p q) 0 65535)
+    (each (λ p. digitOf (maskOf 0) p ≡ cond (eqb p 0) 0 65535) refl refl refl refl)
+    (each (λ p. digitOf (maskOf 1) p ≡ cond (eqb p 1) 0 65535) refl refl refl refl)
+    (each (λ p. digitOf (maskOf 2) p ≡ cond (eqb p 2) 0 65535) refl refl refl refl)
+    (each (λ p. digitOf (maskOf 3) p ≡ cond (eqb p 3) 0 65535) refl refl refl refl)
+
+module _ (x q v : ℕ) (g : q < 4) (h : v < 65536) where
+  put-digit : (p : ℕ) → p < 4 → digitOf (putOf x q v) p ≡ bitOr (bitAnd (digitOf x p) (cond (eqb p q) 0 65535)) (digitOf (v * 2 ^ (16 * q)) p)
+  put-digit p l =
+      digit-or (bitAnd x (maskOf q)) (v * 2 ^ (16 * q) % 2 ^ 64) p
+      ∙ ap₂ bitOr (digit-and x (maskOf q) p ∙ ap (bitAnd (digitOf x p)) (mask-digit q g p l)) (ap (λ (y : ℕ). digitOf y p) (shifted v q h g))
+
+  put-same : digitOf (putOf x q v) q ≡ v
+  put-same = put-digit q g ∙ rw (eq-eqb q q refl, and-zero-r) (placed-same v q h)
+
+  put-other : (p : ℕ) → p < 4 → p ≢ q → digitOf (putOf x q v) p ≡ digitOf x p
+  put-other p l n =
+      let e : digitOf x p % 65536 ≡ digitOf x p = omega arith in
+      put-digit p l ∙ rw (ne-eqb p q n, placed-other v q p h n, or-zero-r) (and-mask (digitOf x p) 16 ∙ e)
 
 -- ---- fields of lent words
 
@@ -118,7 +119,7 @@ put-field w base k v h g j = go (ℕ-discrete (j / 4) (k / 4)) (ℕ-discrete j k
     go (yes e) (yes f) =
         let m : j % 4 ≡ k % 4 = omega arith in
         rw (eq-eqb j k f) (mine e ∙ ap (λ (q : ℕ). digitOf (putOf (getD w (base + j / 4) 0) q v) (j % 4)) (sym m) ∙ put-same (getD w (base + j / 4) 0) (j % 4) v (omega arith) g)
-    go (yes e) (no n) = rw (ne-eqb j k n) (mine e ∙ put-other (getD w (base + j / 4) 0) (k % 4) v (omega arith) (j % 4) (λ p. n (omega arith)))
+    go (yes e) (no n) = rw (ne-eqb j k n) (mine e ∙ put-other (getD w (base + j / 4) 0) (k % 4) v (omega arith) g (j % 4) (omega arith) (λ p. n (omega arith)))
     go (no n) d =
         rw (ne-eqb j k (λ p. n (omega arith)))
         (ap (λ (x : ℕ). digitOf x (j % 4)) (getD-set-other w (base + k / 4) (base + j / 4) (putOf (getD w (base + k / 4) 0) (k % 4) v) 0 (λ p. n (omega arith))))
@@ -129,11 +130,7 @@ abbrev pub allOnes : ℕ
 allOnes = 0xFFFF_FFFF_FFFF_FFFF
 
 all-ones : (q : ℕ) → q < 4 → digitOf allOnes q ≡ 65535
-all-ones zero h = refl
-all-ones (suc zero) h = refl
-all-ones (suc (suc zero)) h = refl
-all-ones (suc (suc (suc zero))) h = refl
-all-ones (suc (suc (suc (suc q)))) h = absurd (omega arith)
+all-ones = each (λ q. digitOf allOnes q ≡ 65535) refl refl refl refl
 
 pub record Filled (base n i : ℕ) (w₀ w : List ℕ) : Type 0 where
   pub few : i ≤ n

@@ -19,7 +19,8 @@ pub fn get16(w: &[u64], base: usize, k: usize) -> usize
     (x % 65536) as usize
 }
 
-// Field k becomes v; the others of its word stay.
+// Field k becomes v; the others of its word stay. The old field is masked away and nothing is computed from it: the word may be one that was
+// lent unfilled.
 // Cost: constant.
 pub fn put16(w: &mut [u64], base: usize, k: usize, v: usize)
     requires { ⌜ (base + k / 4 < length (now w)) × (v < 65536) ⌝ }
@@ -28,9 +29,8 @@ pub fn put16(w: &mut [u64], base: usize, k: usize, v: usize)
 {
     let at = base + k / 4;
     let s = 16 * (k % 4);
-    let x = w[at];
-    let change = ((x >> s) ^ (v as u64)) % 65536;
-    w[at] = x ^ (change << s);
+    let mask: u64 = 65535 << s;
+    w[at] = (w[at] & !mask) | ((v as u64) << s);
 }
 
 // Every field of the n words from base on becomes 65535, which stands for no entry of a chain.

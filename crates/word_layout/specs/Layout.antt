@@ -107,22 +107,35 @@ pub record Placed (w : List ℕ) (base : ℕ) : Type 0 where
   pub above : mapEnd ≤ base
   pub block : blockEnd base ≤ length w
 
--- ---- the listed arcs of the only automaton by their letter, in the place of the second block, which comparing alone needs: the source
--- of each listed arc, 2,048 fields; the chains of the arcs by their letter's byte, 2,048 next fields and 256 heads
-abbrev pub sources : ℕ
-sources = secondBlock
-
--- of the chains by letter the next fields
-abbrev pub letterNexts : ℕ
-letterNexts = sources + 512
-
--- and the heads, a field for each byte that a letter can have
+-- ---- words judged by the only automaton where all its plain arcs are listed: the listed arcs by their letter and source. First the heads of
+-- their chains, 256 fields for the arcs that have no letter and 256 for each letter, a field for each source. They take the place of the
+-- building's tables, which are not needed any more
 abbrev pub letterHeads : ℕ
-letterHeads = letterNexts + 512
+letterHeads = 0
+
+-- behind the heads of 64 letters
+abbrev pub letterHeadsEnd : ℕ
+letterHeadsEnd = 4160
+
+-- the chains' next fields, one for each listed arc, in the place of the second block, which comparing alone needs
+abbrev pub letterNexts : ℕ
+letterNexts = secondBlock
+
+-- the configurations that the arcs with no letter leave, and those that the arcs with each letter leave: 65 rows
+abbrev pub letterSources : ℕ
+letterSources = letterNexts + 512
+
+-- the number of the letter that each byte stands for, a field for each byte that a letter can have as its key
+abbrev pub byteLetters : ℕ
+byteLetters = letterSources + 260
 
 -- behind these
 abbrev pub letteredEnd : ℕ
-letteredEnd = letterHeads + 64
+letteredEnd = byteLetters + 64
+
+-- the set of the final configurations, one row
+abbrev pub finalRow : ℕ
+finalRow = letteredEnd
 
 -- ---- a call on one automaton whose live sets are met: what is made of them stands below the building's tables, then the block, then the
 -- table of live sets, then the sets of the letters

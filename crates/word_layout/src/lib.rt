@@ -51,12 +51,16 @@ pub const BLOCK_ARCS: usize = 1024;
 
 pub const BLOCK_STARTS: usize = 1536;
 
-// The listed arcs of the only automaton by their letter.
-pub const SOURCES: usize = 6592;
+// The listed arcs of the only automaton by their letter and source, and the letters' numbers by the bytes of words.
+pub const LETTER_HEADS: usize = 0;
 
-pub const LETTER_NEXTS: usize = 7104;
+pub const LETTER_NEXTS: usize = 6592;
 
-pub const LETTER_HEADS: usize = 7616;
+pub const LETTER_SOURCES: usize = 7104;
+
+pub const BYTE_LETTERS: usize = 7364;
+
+pub const FINAL_ROW: usize = 7428;
 
 // The places of a call on one automaton whose live sets are met: where words are counted, where the sets before a place of a word with
 // ranges stand, and what both use.

@@ -4,18 +4,18 @@ use mathlib.Core.Logic.{_≢_}
 use mathlib.Core.Bool.{Bool, false, not, _||_, or-false}
 use mathlib.Core.List.{List, [], _∷_, _++_, append-assoc}
 use Prim.Native.Nat.{ℕ, suc, _+_, _*_, _/_, _%_, _^_, _≤_, _<_}
-use native.Mathlib.Decide.{decLt}
+use native.Mathlib.Decide.{ℕ-discrete, decLt}
 use native.Mathlib.Numerals.{add-one, add-two, add-three}
 use native.Mathlib.Omega.{arith}
 use lib.Dec.{eqb, lit<}
-use lib.ListN.{length, getD, take, drop, set, length-take, length-drop, List·getD-eq-default}
-use lib.Bits.{bitAnd}
-use lib.Seq.{ext-getD, getD-take, getD-drop, take-at, drop-at, length-take-le, sets, sets-eq}
+use lib.ListN.{length, getD, take, drop, set, length-take, length-drop, length-set, List·getD-eq-default}
+use lib.Bits.{bitAnd, bitOr}
+use lib.Seq.{ext-getD, getD-take, getD-drop, getD-set-same, getD-set-other, take-at, drop-at, length-take-le, sets, sets-eq}
 use Rattle.word_fields.specs.Frame.{Kept}
 use Rattle.word_sets.specs.Sets.{inSet}
 use Rattle.word_rows.specs.Rows.{row, related}
 use Rattle.word_fields.proofs.Laws.{kept-same, kept-set, kept-then, kept-wider}
-use Rattle.word_sets.proofs.Laws.{Four, four-words, has-set}
+use Rattle.word_sets.proofs.Laws.{Four, four-words, has-set, with-set}
 
 pub row-length : (w : List ℕ) (base i : ℕ) → base + 4 * i + 4 ≤ length w → length (row w base i) ≡ 4
 unfolding row
@@ -103,3 +103,39 @@ stored w base i s h e =
     let vs : List ℕ = getD s 0 0 ∷ getD s 1 0 ∷ getD s 2 0 ∷ getD s 3 0 ∷ [] in
     rw (add-one (base + 4 * i), add-two (base + 4 * i), add-three (base + 4 * i))
     (kept-sets vs w (base + 4 * i), sets-there vs w (base + 4 * i) h ∙ sym (four-words s e))
+
+-- ---- add
+
+-- word q of row i is written
+row-set : (w : List ℕ) (base i q x : ℕ) → base + 4 * i + 4 ≤ length w → q < 4 → row (set w (base + 4 * i + q) x) base i ≡ set (row w base i) q x
+row-set w base i q x h l =
+    ext-getD 0 (row w′ base i) (set (row w base i) q x) (long ∙ sym (length-set (row w base i) q x ∙ row-length w base i h))
+    (λ p m. let n : p < 4 = omega (arith, long) in row-at w′ base i p n ∙ go p n (ℕ-discrete p q))
+  where
+    w′ : List ℕ
+    w′ = set w (base + 4 * i + q) x
+
+    long : length (row w′ base i) ≡ 4
+    long = row-length w′ base i (rw (length-set w (base + 4 * i + q) x) h)
+
+    go : (p : ℕ) → p < 4 → Dec (p ≡ q) → getD w′ (base + 4 * i + p) 0 ≡ getD (set (row w base i) q x) p 0
+    go p n (yes e) =
+        rw e (getD-set-same w (base + 4 * i + q) x 0 (omega arith) ∙ sym (getD-set-same (row w base i) q x 0 (omega (arith, row-length w base i h))))
+    go p n (no e) =
+        getD-set-other w (base + 4 * i + q) (base + 4 * i + p) x 0 (λ s. e (omega arith)) ∙ sym (row-at w base i p n) ∙ sym (getD-set-other (row w base i) q p x 0 e)
+
+-- one digit of one word is set: k joins row i
+pub added : (w : List ℕ) (base i k : ℕ) → k < 256 → base + 4 * i + 4 ≤ length w
+    → let w′ = set w (base + 4 * i + k / 64) (bitOr (getD w (base + 4 * i + k / 64) 0) (2 ^ (k % 64))) in
+    Kept (base + 4 * i) (base + 4 * i + 4) w w′ × ((j : ℕ) → related w′ base i j ≡ (eqb j k || related w base i j))
+unfolding related
+added w base i k h g = (
+  kept-wider (omega arith) (omega arith) (kept-set w (base + 4 * i + k / 64) new),
+  λ j. ap (λ (s : List ℕ). inSet s j)
+      (row-set w base i (k / 64) new g (omega arith)
+      ∙ ap (λ (x : ℕ). set (row w base i) (k / 64) (bitOr x (2 ^ (k % 64)))) (sym (row-at w base i (k / 64) (omega arith))))
+      ∙ with-set (row w base i) k (omega (arith, row-length w base i g)) j,
+)
+  where
+    new : ℕ
+    new = bitOr (getD w (base + 4 * i + k / 64) 0) (2 ^ (k % 64))

@@ -3,7 +3,7 @@ ghost use mathlib.Core.Path.{_≡_};
 ghost use mathlib.Core.Logic.{_↔_};
 ghost use mathlib.Core.Bool.{_||_, _&&_};
 ghost use Prim.Native.Nat.{ℕ, _+_, _*_, _≤_, _<_};
-ghost use lib.Dec.{T};
+ghost use lib.Dec.{T, eqb};
 ghost use lib.ListN.{length};
 ghost use Rattle.word_fields.specs.Frame.{Kept};
 ghost use Rattle.word_sets.specs.Sets.{inSet};
@@ -48,6 +48,17 @@ fn holds(w: &[u64], base: usize, i: usize, k: usize) -> bool
     ensures { λ r. ⌜ r ≡ related (now (w .entry)) base i k ⌝ }
 {
     w[base + 4 * i + word_of(k)] & mask_of(k) != 0
+}
+
+// k joins row i. One word of the row changes.
+// Cost: constant.
+pub fn add(w: &mut [u64], base: usize, i: usize, k: usize)
+    requires { ⌜ (k < 256) × (base + 4 * i + 4 ≤ length (now w)) ⌝ }
+    ensures kept { λ _. ⌜ Kept (base + 4 * i) (base + 4 * i + 4) (now (w .entry)) (now (w .exit)) ⌝ }
+    ensures set { λ _. ⌜ ((j : ℕ) → related (now (w .exit)) base i j ≡ (eqb j k || related (now (w .entry)) base i j)) ⌝ }
+{
+    let at = base + 4 * i + word_of(k);
+    w[at] = w[at] | mask_of(k);
 }
 
 // What k is related to, each row that has k is now related to as well. Row k is read once: it does not change.

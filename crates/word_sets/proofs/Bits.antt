@@ -1,12 +1,13 @@
 -- Bits: laws of the digits of a word.
 use mathlib.Core.Path.{_≡_, refl, sym, ap, ap₂, _∙_, subst}
 use mathlib.Core.Logic.{_↔_}
-use mathlib.Core.Bool.{Bool, false, not, _||_, _&&_, or-comm}
-use Prim.Native.Nat.{ℕ, zero, suc, _+_, _*_, _/_, _%_, _^_, _≤_, _<_, suc-le-suc, zero-le}
+use mathlib.Core.Bool.{Bool, false, not, _||_, _&&_, and-false, and-self, or-comm}
+use Prim.Native.Nat.{ℕ, zero, suc, _+_, _-_, _*_, _/_, _%_, _^_, _≤_, _<_, suc-le-suc, zero-le}
 use native.Mathlib.Nat.{one-mul, zero-mul, zero-div, mod-lt, div-eq-of-lt, div-one, mul-div-mul-right, mul-mod-left, pow-suc, zero-lt-suc, lt-of-lt-of-le}
+use native.Mathlib.Decide.{ℕ-discrete}
 use native.Mathlib.Omega.{arith}
 use borrow.Author.Tests.{ne-eqb}
-use lib.Dec.{T, eqb, eqb·zero-suc, eqb·suc-zero, eqb·suc-suc, lit<}
+use lib.Dec.{T, eqb, eqb→eq, eqb·zero-suc, eqb·suc-zero, eqb·suc-suc, lit<}
 use lib.Pow.{shl-exact, shr-shr, pow-pos, pow-lt, pow-mono, high-ones}
 use lib.Bits.{bitAnd, bitOr, bitXor, and-high, or-shr, or-mod, and-shr, and-mod, or-add-and, xor-add-and, xor-self, and-le-l, and-le-r}
 use lib.Count.{trailingZeros, under}
@@ -102,6 +103,30 @@ has-bit x k h = ap (λ (m : ℕ). not (eqb (bitAnd x m) 0)) (one-shl k h) ∙ ha
 
 pub bit-with : (x k : ℕ) → k < 64 → (j : ℕ) → bit (bitOr x (1 * 2 ^ k % 2 ^ 64)) j ≡ (eqb j k || bit x j)
 bit-with x k h j = ap (λ (m : ℕ). bit (bitOr x m) j) (one-shl k h) ∙ with-digit x k j
+
+-- ---- one less than a word that is not 0 has the digits of the word above its lowest digit 1, and has no 1 in the place of that
+odd-digit : (x : ℕ) → T (bit x 0) → x % 2 ≡ 1
+odd-digit x h = eqb→eq (x % 2) 1 (subst T (bit-first x) h)
+
+even-digit : (x : ℕ) → ¬ T (bit x 0) → x % 2 ≡ 0
+even-digit x h = go (ℕ-discrete (x % 2) 1)
+  where
+    go : Dec (x % 2 ≡ 1) → x % 2 ≡ 0
+    go (yes e) = absurd (h (subst T (sym (bit-first x)) (rw e tt)))
+    go (no n) = omega arith
+
+pub without-lowest : (t x : ℕ) → ((j : ℕ) → j < t → ¬ T (bit x j)) → T (bit x t) → (j : ℕ) → (bit x j && bit (x - 1) j) ≡ (not (eqb j t) && bit x j)
+without-lowest zero x none one zero = let e = odd-digit x one in let f : (x - 1) % 2 ≡ 0 = omega arith in rw (bit-first (x - 1), f, and-false (bit x 0))
+without-lowest zero x none one (suc j) =
+    let e = odd-digit x one in
+    let h : (x - 1) / 2 ≡ x / 2 = omega arith in
+    rw (bit-suc (x - 1) j, h, ← bit-suc x j, and-self (bit x (suc j)), eqb·suc-zero)
+without-lowest (suc t) x none one zero = let f : bit x 0 ≡ false = bit-first x ∙ ap (λ (d : ℕ). eqb d 1) (even-digit x (none 0 (omega arith))) in rw (f, eqb·zero-suc)
+without-lowest (suc t) x none one (suc j) =
+    let e = even-digit x (none 0 (omega arith)) in
+    let p : ¬ (x ≡ 0) = λ z. absurd (subst T (ap (λ (y : ℕ). bit y (suc t)) z ∙ bit-zero (suc t)) one) in
+    let h : (x - 1) / 2 ≡ x / 2 - 1 = omega (arith, p) in
+    rw (bit-suc (x - 1) j, h, bit-suc x j, eqb·suc-suc) (without-lowest t (x / 2) (λ i l q. none (suc i) (omega arith) (subst T (sym (bit-suc x i)) q)) (subst T (bit-suc x t) one) j)
 
 -- ---- words by their digits
 

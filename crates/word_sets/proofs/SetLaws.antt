@@ -150,6 +150,29 @@ same-set a b la lb = (
     f : ℕ → ℕ
     f q = bitXor (getD a q 0) (getD b q 0)
 
+-- no word has a digit 1
+pub none-set : (s : List ℕ) → Four s → T (eqb (orTo (λ q. getD s q 0) 3) 0) ↔ ((j : ℕ) → ¬ T (inSet s j))
+unfolding inSet
+none-set s fs = (λ t j u. none (orTo-zero f 3 (eqb→eq (orTo f 3) 0 t)) j u, λ g. zero-or g (ℕ-discrete (orTo f 3) 0))
+  where
+    f : ℕ → ℕ
+    f q = getD s q 0
+
+    none : ((q : ℕ) → q ≤ 3 → f q ≡ 0) → (j : ℕ) → ¬ T (inSet s j)
+    none z j u = subst T (ap (λ (x : ℕ). bit x (j % 64)) (all (decLe (j / 64) 3)) ∙ bit-zero (j % 64)) u
+      where
+        all : Dec (j / 64 ≤ 3) → f (j / 64) ≡ 0
+        all (yes h) = z (j / 64) h
+        all (no h) = let l : 4 ≤ j / 64 = omega arith in List·getD-eq-default s 0 (omega (arith, fs .long))
+
+    zero-or : ((j : ℕ) → ¬ T (inSet s j)) → Dec (orTo f 3 ≡ 0) → T (eqb (orTo f 3) 0)
+    zero-or g (yes e) = rw e tt
+    zero-or g (no n) =
+        let l = trailing 64 (orTo f 3) (orTo-lt f 3 (fs .fits)) n in
+        let i = trailingZeros 64 (orTo f 3) in
+        let o = orTo-bit f 3 i (l .one) in
+        absurd (g (64 * o .0 + i) (rw (place s (o .0) i (l .inside)) (o .1)))
+
 -- some digit is 1 in both
 pub meets-set : (a b : List ℕ) → Four a → Four b → T (not (eqb (orTo (λ q. bitAnd (getD a q 0) (getD b q 0)) 3) 0)) ↔ ((j : ℕ) × T (inSet a j) × T (inSet b j))
 unfolding inSet

@@ -65,6 +65,14 @@ pub fn meets(a: [u64; 4], b: [u64; 4]) -> bool
     (a[0] & b[0]) | (a[1] & b[1]) | (a[2] & b[2]) | (a[3] & b[3]) != 0
 }
 
+// Has it no member?
+// Cost: constant.
+pub fn is_empty(set: [u64; 4]) -> bool
+    ensures { λ r. ⌜ T r ↔ ((j : ℕ) → ¬ T (inSet set j)) ⌝ }
+{
+    set[0] | set[1] | set[2] | set[3] == 0
+}
+
 // Are they the same set?
 // Cost: constant.
 pub fn same(a: [u64; 4], b: [u64; 4]) -> bool

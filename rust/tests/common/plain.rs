@@ -379,11 +379,37 @@ pub fn accepts(file: &[u8], word: &[u8], words_lent: usize) -> Result<(bool, usi
     if explore(&x).is_none() {
         return refuse(21, 1);
     }
-    let mut live = live_at_start(&x);
+    Ok(judge(&x, word))
+}
+
+fn judge(x: &Automaton, word: &[u8]) -> (bool, usize) {
+    let mut live = live_at_start(x);
     for &byte in word {
-        live = live_after_byte(&x, &live, byte);
+        live = live_after_byte(x, &live, byte);
     }
-    Ok((is_accepted(&x, &live), live.len()))
+    (is_accepted(x, &live), live.len())
+}
+
+/// The same of each word that ends in the bytes, at most `room`, and how many bytes these words take with their separators.
+pub fn accepts_words(
+    file: &[u8],
+    bytes: &[u8],
+    separator: u8,
+    words_lent: usize,
+    room: usize,
+) -> Result<(Vec<(bool, usize)>, usize), Refusal> {
+    if words_lent < 8192 {
+        return refuse(24, 0);
+    }
+    let x = read_one(file, 1)?;
+    if explore(&x).is_none() {
+        return refuse(21, 1);
+    }
+    let mut words: Vec<&[u8]> = bytes.split(|&byte| byte == separator).collect();
+    words.pop(); // what no separator ends
+    words.truncate(room);
+    let taken = words.iter().map(|word| word.len() + 1).sum();
+    Ok((words.iter().map(|word| judge(&x, word)).collect(), taken))
 }
 
 /// The unfolded file.

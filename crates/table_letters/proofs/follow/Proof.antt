@@ -1,75 +1,63 @@
--- `table_letters::follow` meets its contract. The loop's invariant: what has joined, with what is left of the chain, gives the whole
--- (Following).
-use mathlib.Core.Path.{_∙_, _≡_, ap, refl, subst, sym}
-use mathlib.Core.Logic.{⊎-elim}
-use Prim.Native.Nat.{_%_, _+_, _<_, ℕ}
+-- `table_letters::follow` meets its contract. The loop's invariant: the sources that stand in the first q words have been visited (Visited).
+use mathlib.Core.Path.{_∙_, _≡_, ap, subst}
+use mathlib.Core.Bool.{_&&_}
+use mathlib.Core.List.{List}
+use Prim.Native.Nat.{_*_, _+_, _-_, _≤_, ℕ}
 use native.Mathlib.Omega.{arith}
-use lib.Dec.{T}
-use Rattle.automata.proofs.Laws.{iff-trans}
 use Rattle.word_rows.specs.Rows.{related}
 use Rattle.word_sets.specs.Sets.{inSet}
+use Rattle.word_sets.proofs.Laws.{four}
 use Rattle.table_sets.proofs.Laws.{led}
-use Rattle.table_letters.specs.Lettered.{sourceOf}
-use Rattle.table_letters.proofs.FollowLetter.{Following, following-end, following-less, following-more, following-skip, following-start, leading-onward}
+use Rattle.table_letters.proofs.FollowSources.{Visited, sources-onward, visited-more, visited-start}
 use Rattle.table_letters.proofs.follow.Statement.{statement}
 use Rattle.table_letters.proofs.follow.Tie as tie
 
 abbrev Inv-loop : tie.InvT-loop
-Inv-loop w block set l out₀ k₀ out k = Following w block set l out k
+Inv-loop w block letters l sources out₀ q₀ out q = (q ≤ 4) × Visited letters w block (256 * (l + 1)) sources out q
 
 abbrev μ-loop : tie.MeasureT-loop
-μ-loop w block set l out₀ k₀ out k = (k + 1) % 65536
+μ-loop w block letters l sources out₀ q₀ out q = 4 - q
 
-get16-requires : tie.Need-get16-requires Inv-loop μ-loop
-get16-requires c κs = let p = c .before .before .pre in omega (arith, p .0, p .1 .apart, p .1 .room)
-
-loop-holds : tie.Need-loop-holds Inv-loop μ-loop
-loop-holds c = let p = c .before .before .before .pre in following-start _ _ (p .1 .chain) (p .0) (c .get16 .ensures .0) (c .before .empty .ensures)
-
-get16-requires-2 : tie.Need-get16-requires-2 Inv-loop μ-loop
-get16-requires-2 c κs = let p = c .before .before .before .before .before .before .pre in omega (arith, c .if1 .taken, p .1 .few, p .1 .apart, p .1 .room)
-
-has-requires : tie.Need-has-requires Inv-loop μ-loop
-has-requires c κs = let i = c .before in subst (λ (x : ℕ). x < 256) (sym (c .get162 .ensures .0)) (i .before .before .before .before .before .before .pre .1 .small _ (omega (arith, i .if1 .taken)))
-
-listed-arc-requires : tie.Need-listed-arc-requires Inv-loop μ-loop
-listed-arc-requires c κs = let i = c .before .before .before in let p = i .before .before .before .before .before .before .pre in omega (arith, i .if1 .taken, p .1 .few, p .1 .apart, p .1 .room)
+add-load : tie.Need-add-load Inv-loop μ-loop
+add-load c = let p = c .before .pre in omega (arith, p .1, p .0 .small)
 
 load-requires : tie.Need-load-requires Inv-loop μ-loop
-load-requires c κs = let f = c .before .before .before .before .before .before .before .before .before .before .pre .1 in omega (arith, f .apart, f .room)
+load-requires c κs = let p = c .before .pre in omega (arith, p .1, p .0 .small, p .0 .room)
 
-get16-requires-3 : tie.Need-get16-requires-3 Inv-loop μ-loop
-get16-requires-3 c κs = let i = c .before .before .before in let p = i .before .before .before .before .before .before .pre in omega (arith, i .if1 .taken, p .1 .few, p .1 .apart, p .1 .room)
+loop-holds : tie.Need-loop-holds Inv-loop μ-loop
+loop-holds c = (omega arith, visited-start _ _ _ _ _ _ (c .empty .ensures))
 
-loop-less : tie.Need-loop-less Inv-loop μ-loop
-loop-less c =
-    let i = c .before .before .before .before in
-    let l = i .before .before in
-    following-less (l .loop .inv) (l .before .before .before .before .pre .1) (i .if1 .taken) (c .get163 .ensures .0)
+add-follow-word : tie.Need-add-follow-word Inv-loop μ-loop
+add-follow-word c = let p = c .before .before .before .before .before .before .pre in omega (arith, p .1, p .0 .small)
+
+mul-follow-word : tie.Need-mul-follow-word Inv-loop μ-loop
+mul-follow-word c = let p = c .before .before .before .before .before .before .pre in omega (arith, p .1, p .0 .small)
+
+add-follow-word-2 : tie.Need-add-follow-word-2 Inv-loop μ-loop
+add-follow-word-2 c = let p = c .before .before .before .before .before .before .pre in omega (arith, p .1, p .0 .small, c .loop-test .taken)
+
+follow-word-requires : tie.Need-follow-word-requires Inv-loop μ-loop
+follow-word-requires c κs = let p = c .before .before .before .before .before .before .pre in (p .0, omega (arith, p .1, c .loop-test .taken))
 
 loop-again : tie.Need-loop-again Inv-loop μ-loop
-unfolding related
 loop-again c =
-    let h = c .before .before in
-    let g = h .before in
-    let i = g .before in
-    let l = i .before .before in
-    let a = l .before .before .before .before .args in
-    let f = l .before .before .before .before .pre .1 in
-    let live : h .has .result ≡ inSet (a .set) (sourceOf (a .w .now) (l .loop .k)) = h .has .ensures ∙ ap (inSet (a .set)) (g .get162 .ensures .0) in
-    ⊎-elim
-    (λ t. rw (t .4)
-    (following-more (l .loop .inv) f (i .if1 .taken) (c .get163 .ensures .0) (t .3 .result) (subst T (sym (t .0 .taken) ∙ live) tt)
-    (λ j. rw (t .3 .ensures j, t .2 .ensures, t .1 .ensures .1 .0) refl)))
-    (λ t. rw (t .1) (following-skip (l .loop .inv) f (i .if1 .taken) (c .get163 .ensures .0) (λ x. subst T (sym live ∙ t .0 .left) x)))
-    (c .before .if2 .came)
+    let i = c .before in
+    let l = i .before in
+    let m = l .before .before in
+    (omega (arith, i .loop-test .taken), visited-more (c .follow-word .result) (four (m .common .result) _ (m .common .ok) .fits (l .loop .q)) (l .loop .inv .1) (c .follow-word .ensures))
 
 returns : tie.Need-returns Inv-loop μ-loop
+unfolding related
 returns c =
-    let l = c .before .before in
-    let p = l .before .before .before .before .pre in
-    λ letters arcs sourced held settled h.
-    led _ (l .loop .out) (omega arith) letters arcs held settled _ h (λ j. iff-trans (following-end (l .loop .inv) (p .1) (c .if1 .left) j) (leading-onward sourced _ _ j))
+    let l = c .before in
+    let m = l .before .before in
+    let s = m .before .before .before in
+    let e : l .loop .q ≡ 4 = omega (arith, c .loop-test .left, l .loop .inv .0) in
+    let done = subst (λ (q : ℕ). Visited (s .args .letters) (s .args .w .now) (s .args .block) (256 * (s .args .l + 1)) (m .common .result) (l .loop .out) q) e (l .loop .inv .1) in
+    λ arcs held settled.
+    led _ (l .loop .out) (omega arith) (s .args .letters) arcs held settled (s .args .l) (s .pre .1)
+    (sources-onward (s .args .set) (m .common .result) (s .pre .0) (s .pre .1) (settled .0)
+    (λ j. m .common .ensures j ∙ ap (λ (r : List ℕ). inSet (s .args .set) j && inSet r j) (m .before .load .ensures)) done)
 
 pub follow-spec : {M : Type 1} → statement M
 follow-spec =
@@ -77,15 +65,19 @@ follow-spec =
     (tie.spec
     Inv-loop
     μ-loop
-    (λ c κs. tt)
-    get16-requires
-    loop-holds
-    get16-requires-2
-    has-requires
-    listed-arc-requires
+    add-load
     load-requires
     (λ c κs. tt)
-    get16-requires-3
-    loop-less
+    (λ c κs. tt)
+    loop-holds
+    add-follow-word
+    mul-follow-word
+    (λ c. omega (arith, c .loop-test .taken))
+    add-follow-word-2
+    (λ c. omega (arith, c .loop-test .taken))
+    (λ c. omega (arith, c .loop-test .taken))
+    follow-word-requires
+    (λ c. omega (arith, c .before .loop-test .taken))
+    (λ c. omega (arith, c .before .loop-test .taken))
     loop-again
     returns)

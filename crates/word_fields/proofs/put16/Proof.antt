@@ -1,4 +1,4 @@
--- `word_fields::put16` meets its contract: in the digit to the base 2 ^ 16 the binary digits that differ from those of v are turned over.
+-- `word_fields::put16` meets its contract: the digit to the base 2 ^ 16 is cleared, and v is written to it.
 use borrow.Author.Needs.{needs}
 use native.Mathlib.Omega.{arith}
 use Prim.Native.Nat.{_+_, _/_}
