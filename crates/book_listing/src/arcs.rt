@@ -1,46 +1,62 @@
-// The arcs in front of the fault.
-ghost use Prim.Native.Nat.{_≤_};
+// The arcs in front of the fault, as lines of the text format.
+ghost use Prim.Native.Nat.{_<_, _≤_};
 ghost use lib.ListN.{length};
 use super::parts::say_letter;
 use book_console::words::say;
 use book_console::words::say_number;
-use format::fields::arc_size;
-use format::fields::operation_kind;
-use format::fields::operation_register;
+use book_tokens::byte_at;
+use file_fields::fields::arc_size;
+use file_fields::fields::operation_kind;
+use file_fields::fields::operation_register;
 
 // A state or a symbol, by its number. Cost: its digits.
-fn say_byte(number: u8) {
+pub fn say_byte(number: u8) {
     say_number(1, number as u64);
 }
 
-// An operation in words. Cost: the text.
-fn say_operation(first: u8, symbol: u8) {
-    if operation_kind(first as usize) == 0 {
-        say(1, b"read ");
-        say_byte(symbol);
-        say(1, b" in register ");
+// An operation, as R1=2 or W1=2, with `writes` for the sign of a write. Cost: the text.
+fn say_operation(writes: &[u8], first: u8, symbol: u8) {
+    let is_read = operation_kind(first as usize) == 0;
+    if is_read {
+        say(1, b" R");
     } else {
-        say(1, b"write ");
-        say_byte(symbol);
-        say(1, b" to register ");
+        say(1, b" W");
     }
     say_number(1, operation_register(first as usize) as u64);
+    if is_read {
+        say(1, b"=");
+    } else {
+        say(1, writes);
+    }
+    say_byte(symbol);
 }
 
-// The operations in their order, `before` in front of the first. Of the read of register 0 alone, which always passes, nothing
-// is said. Cost: the operations.
-fn say_operations(before: &[u8], s: &[u8]) {
-    if s.len() == 2 && s[0] == 0 {
+// Is the only operation of the arc the read of register 0, which always passes? Cost: constant.
+pub fn is_plain(s: &[u8]) -> bool {
+    s.len() == 6 && byte_at(s, 4) == 0
+}
+
+// The place behind the operation at a place. Cost: constant.
+fn behind_operation(i: usize, end: usize) -> usize
+    requires { ⌜ i < end ⌝ }
+    ensures { λ r. ⌜ (i < r) × (r ≤ end) ⌝ }
+{
+    if end - i < 2 {
+        return end;
+    }
+    i + 2
+}
+
+// The operations of an arc in their order, each behind a space; of the read of register 0 alone nothing is said.
+// Cost: the operations.
+pub fn say_operations(writes: &[u8], s: &[u8]) {
+    if is_plain(s) {
         return;
     }
-    say(1, before);
-    let mut i: usize = 0;
-    while i + 1 < s.len() {
-        if i > 0 {
-            say(1, b", then ");
-        }
-        say_operation(s[i], s[i + 1]);
-        i += 2;
+    let mut i: usize = 4;
+    while i < s.len() {
+        say_operation(writes, s[i], byte_at(s, i + 1));
+        i = behind_operation(i, s.len());
     }
 }
 
@@ -54,54 +70,44 @@ fn say_arc_letter(letters: &[u8], number: u8) {
     }
 }
 
-// An arc as a line: `FROM --LETTER--> TO`, then its operations in words. Cost: its operations.
-fn say_arc(letters: &[u8], s: &[u8])
-    requires { ⌜ 4 ≤ length (now s) ⌝ }
-{
-    say_byte(s[0]);
-    say(1, b" --");
-    say_arc_letter(letters, s[1]);
-    say(1, b"--> ");
-    say_byte(s[2]);
-    say_operations(b"  ", &s[4..]);
+// The line of an arc, which is all of s. Cost: its operations.
+fn list_arc(letters: &[u8], s: &[u8]) {
+    say(1, b"arc ");
+    say_byte(byte_at(s, 0));
+    say(1, b" ");
+    say_arc_letter(letters, byte_at(s, 1));
+    say(1, b" ");
+    say_byte(byte_at(s, 2));
+    say_operations(b"=", s);
     say(1, b"\n");
 }
 
-// An arc as an edge of a graph, labelled by its letter and its operations in words. Cost: its operations.
-fn say_edge(letters: &[u8], s: &[u8])
-    requires { ⌜ 4 ≤ length (now s) ⌝ }
+// Where the arc at a place ends; 0 where it does not stand there whole. Cost: constant.
+pub fn arc_end(s: &[u8], at: usize) -> usize
+    ensures { λ r. ⌜ r ≤ length (now (s .entry)) ⌝ }
 {
-    say(1, b"  ");
-    say_byte(s[0]);
-    say(1, b" -> ");
-    say_byte(s[2]);
-    say(1, b" [label=\"");
-    say_arc_letter(letters, s[1]);
-    say_operations(b": ", &s[4..]);
-    say(1, b"\"];\n");
-}
-
-// Shows an arc, which is all of s. Cost: its operations.
-fn show_arc(graph: bool, letters: &[u8], s: &[u8])
-    requires { ⌜ 4 ≤ length (now s) ⌝ }
-{
-    if graph {
-        say_edge(letters, s);
-    } else {
-        say_arc(letters, s);
+    if s.len() < 4 {
+        return 0;
     }
+    if s.len() - 4 < at {
+        return 0;
+    }
+    let size = arc_size(s, at);
+    if s.len() - at < size {
+        return 0;
+    }
+    at + size
 }
 
-// Shows the arcs from the front of s on that stand there whole. Cost: one pass over them.
-pub fn show_arcs(graph: bool, letters: &[u8], s: &[u8]) {
+// The lines of the arcs from the front of s on that stand there whole. Cost: one pass over them.
+pub fn list_arcs(letters: &[u8], s: &[u8]) {
     let mut at: usize = 0;
-    while 4 <= s.len() - at {
-        let size = arc_size(s, at);
-        if s.len() - at < size {
+    while at < s.len() {
+        let end = arc_end(s, at);
+        if end <= at {
             return;
         }
-        let next = at + size;
-        show_arc(graph, letters, &s[at..next]);
-        at = next;
+        list_arc(letters, &s[at..end]);
+        at = end;
     }
 }

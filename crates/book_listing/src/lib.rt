@@ -1,12 +1,12 @@
-// book_listing: a file told in words, or as a graph in the DOT language, on standard output, up to its first fault. What the fault is
-// and where it stands is format::read's to say: nothing of the file is judged here.
+// book_listing: a file as a text that assembles to the same bytes (docs/TEXT.md), or as a graph in the DOT language, on standard output, up
+// to its first fault. What the fault is and where it stands is format::read's to say: nothing of the file is judged here.
 ghost use mathlib.Core.Path.{_≡_};
 ghost use Prim.Native.Nat.{_≤_};
 ghost use lib.ListN.{length};
 ghost use Rattle.file_fields.specs.Parts.{countsOf};
 ghost use Rattle.format.specs.Limits.{Ranges};
 ghost use Rattle.format.specs.Reading.{readingOf};
-use arcs::show_arcs;
+use arcs::list_arcs;
 use book_console::words::say;
 use book_console::words::say_number;
 use file_fields::fields::first_arc;
@@ -14,10 +14,16 @@ use file_fields::fields::flags_at;
 use file_fields::header::read_counts;
 use format::Counts;
 use format::Reading;
-use parts::show_letters;
-use parts::show_states;
+use graph::begin_graph;
+use graph::direct_graph;
+use graph::draw_arcs;
+use graph::draw_states;
+use parts::list_letters;
+use parts::list_states;
+use parts::say_names;
 
-mod arcs;
+pub mod arcs;
+mod graph;
 mod parts;
 
 // A number, and what it counts. Cost: the text.
@@ -26,11 +32,12 @@ fn say_count(n: usize, what: &[u8]) {
     say(1, what);
 }
 
-// A line with the header's counts; a graph has none. Cost: the line.
+// A comment with the header's counts; a graph has none. Cost: the line.
 fn show_counts(graph: bool, c: Counts) {
     if graph {
         return;
     }
+    say(1, b"-- ");
     say_count(c.letters, b" letters, ");
     say_count(c.states, b" states, ");
     say_count(c.registers, b" registers, ");
@@ -38,25 +45,50 @@ fn show_counts(graph: bool, c: Counts) {
     say_count(c.arcs, b" arcs\n");
 }
 
-// The lines of registers and symbols: they are numbers below their counts. Cost: the lines.
+// The lines of registers and symbols, whose names are their numbers; of a graph its direction. Cost: the lines.
 fn show_registers(graph: bool, c: Counts) {
+    if graph {
+        direct_graph(c.states);
+        return;
+    }
+    say(1, b"registers ");
+    say_count(c.registers, b"\nsymbols");
+    say_names(c.symbols);
+    say(1, b"\n");
+}
+
+// The letters. Cost: the letters.
+fn show_letters(graph: bool, letters: &[u8]) {
     if graph {
         return;
     }
-    say(1, b"registers: numbers below ");
-    say_count(
-        c.registers,
-        b", each holds symbol 0 at the start, register 0 always\n",
-    );
-    say(1, b"symbols: numbers below ");
-    say_count(c.symbols, b"\narcs:\n");
+    list_letters(letters);
+}
+
+// The states with these flags; in a listing all states are named. Cost: the states.
+fn show_states(graph: bool, count: usize, flags: &[u8]) {
+    if graph {
+        draw_states(flags);
+    } else {
+        list_states(count, flags);
+    }
+}
+
+// The arcs from the front of s on that stand there whole. Cost: that of the listing or the graph.
+fn show_arcs(graph: bool, letters: &[u8], s: &[u8]) {
+    if graph {
+        draw_arcs(letters, s);
+    } else {
+        list_arcs(letters, s);
+    }
 }
 
 // Shows what stands behind the header and in front of the place `end`: of the letters and the flags as many as are there, then the
-// arcs. A part that the file ends inside is not shown. Cost: one pass over the bytes shown.
+// arcs. A part that the file ends inside is not shown. Cost: that of the listing or the graph.
 fn show_body(graph: bool, c: Counts, file: &[u8], end: usize)
     requires { ⌜ Ranges c × (12 ≤ end) × (end ≤ length (now file)) ⌝ }
 {
+    show_registers(graph, c);
     let flags = flags_at(c);
     if file.len() < flags {
         return;
@@ -75,7 +107,6 @@ fn show_body(graph: bool, c: Counts, file: &[u8], end: usize)
         return;
     }
     show_states(graph, c.states, &file[flags..arcs]);
-    show_registers(graph, c);
     show_arcs(graph, &file[12..flags], &file[arcs..end]);
 }
 
@@ -94,11 +125,20 @@ fn show_until(graph: bool, file: &[u8], end: usize)
     }
 }
 
-// Shows the file up to its first fault, and answers what reading it answers.
-// Cost: that of reading the file, and one pass over the bytes shown.
+// What stands in front of a graph. Cost: the text.
+fn begin(graph: bool) {
+    if graph {
+        begin_graph();
+    }
+}
+
+// Shows the file up to its first fault, and answers what reading it answers. Of a graph all but its closing brace is written: the fault
+// can stand there as a comment. Cost: that of reading the file, and of the listing, which is one pass over the bytes shown; of the
+// graph, which is a pass over the arcs for each arc.
 pub fn show(graph: bool, file: &[u8]) -> Reading
     ensures { λ r. ⌜ r ≡ readingOf (now (file .entry)) ⌝ }
 {
+    begin(graph);
     let reading = format::read(file);
     match reading {
         Reading::Valid(_) => show_until(graph, file, file.len()),

@@ -10,12 +10,12 @@ use Rattle.book_listing.proofs.show.Tie as tie
 show-until-requires : tie.Need-show-until-requires
 show-until-requires c κs =
     let r = c .before .before in
-    (omega arith, λ _. file-seen (r .before .before .args .file .now) _ (sym (r .read .ensures) ∙ c .enum-told .given .1) .header .ranges)
+    (omega arith, λ _. file-seen (r .before .before .before .args .file .now) _ (sym (r .read .ensures) ∙ c .enum-told .given .1) .header .ranges)
 
 show-until-requires-2 : tie.Need-show-until-requires-2
 show-until-requires-2 c κs =
     let r = c .before .before .before in
-    let s = r .before .before .args .file .now in
+    let s = r .before .before .before .args .file .now in
     let known = c .before .reading .given in
     let e = sym (r .read .ensures) ∙ known .1 in
     (place-inside s (known .0 .0) (known .0 .1 .0) e, behind-header s e)
@@ -30,6 +30,7 @@ pub show-spec : {M : Type 1} → statement M
 show-spec =
     tie.close
     (tie.spec
+    (λ c κs. search needs)
     (λ c κs. search needs)
     (λ c. search needs)
     show-until-requires
