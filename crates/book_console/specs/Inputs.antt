@@ -10,8 +10,6 @@ use lib.ListN.{length}
 use Rattle.io.specs.Counts.{Counts}
 use Rattle.book_console.specs.declared.files.Loaded.{Loaded}
 use Rattle.book_console.specs.declared.files.Loaded.the-variants.{Bytes, Nothing}
-use Rattle.book_console.specs.declared.lines.Line.{Line}
-use Rattle.book_console.specs.declared.lines.Line.the-variants.{End, Word}
 
 -- the answer whether an argument is the word: a text of at most 4,096 bytes was read, and it is that word or not
 pub record Asked (word : List ℕ) (answer : Bool) : Type 0 where
@@ -23,8 +21,3 @@ pub record Asked (word : List ℕ) (answer : Bool) : Type 0 where
 abbrev pub LoadedTo : List ℕ → Loaded → Type 0
 LoadedTo buffer (Bytes n) = Counts n buffer
 LoadedTo buffer Nothing = Unit {0}
-
--- so many bytes stand at the front of the buffer, where a word was read
-abbrev pub ReadTo : List ℕ → Line → Type 0
-ReadTo buffer (Word n) = n ≤ length buffer
-ReadTo buffer End = Unit {0}

@@ -1,7 +1,8 @@
-// book_console: what the programs share: files named by arguments, words on standard input, refusals told in words, results
-// written to files.
-// A program has no way to set its exit status. What went wrong is told on standard error, and standard output has nothing of it.
+// book_console: what the programs share: files named by arguments, refusals told in words, results written to files, and the statuses that
+// a run ends with. What went wrong is told on standard error, and standard output has nothing of it.
+pub mod calls;
 pub mod files;
-pub mod lines;
+pub mod paths;
 pub mod refusals;
+pub mod saving;
 pub mod words;

@@ -1,5 +1,6 @@
 // A refusal in words: what its number means, and where the fault of a file stands.
-use super::files::save_front;
+use super::calls::FAILED;
+use super::saving::save_front;
 use super::words::say;
 use super::words::say_argument;
 use super::words::say_number;
@@ -138,8 +139,8 @@ pub fn tell_refusal(
     }
 }
 
-// Writes the file that a call answered to the file that the argument `result` names, or tells the refusal as `tell_refusal` does.
-// `out` is the output that the call was lent. Cost: one pass over the file, or that of `tell_refusal`.
+// Writes the file that a call answered to the file that the argument `result` names, or tells the refusal as `tell_refusal` does, and
+// answers the status. `out` is the output that the call was lent. Cost: one pass over the file, or that of `tell_refusal`.
 pub fn finish(
     answer: Written,
     out: &[u8],
@@ -148,11 +149,12 @@ pub fn finish(
     result: usize,
     first: &[u8],
     second: &[u8],
-) {
+) -> u8 {
     match answer {
         Written::Bytes(n) => save_front(result, out, n),
         Written::Refused(number, automaton) => {
-            tell_refusal(number, automaton, first_name, second_name, first, second)
+            tell_refusal(number, automaton, first_name, second_name, first, second);
+            FAILED
         }
     }
 }

@@ -15,6 +15,15 @@ pub fn say(file: i32, text: &[u8]) -> bool {
     is_said
 }
 
+// Writes bytes to standard output, and answers whether that passed; that it failed is told on standard error. Cost: the bytes.
+pub fn write_out(bytes: &[u8]) -> bool {
+    let is_written = io::write_all(1, bytes);
+    if !is_written {
+        os::fail(b"standard output");
+    }
+    is_written
+}
+
 // A number in decimal. Each line has text behind its numbers, and that text's writing tells what failed. Cost: its digits.
 pub fn say_number(file: i32, n: u64) {
     io::print_decimal(file, n);
@@ -28,7 +37,7 @@ pub fn say_argument(file: i32, argument: usize) {
 }
 
 // Whether two texts are the same bytes. Cost: the bytes up to the first that differs.
-fn same_bytes(left: &[u8], right: &[u8]) -> bool
+pub fn same_bytes(left: &[u8], right: &[u8]) -> bool
     ensures { λ r. ⌜ T r ↔ (now (left .entry) ≡ now (right .entry)) ⌝ }
 {
     if left.len() != right.len() {
