@@ -1,7 +1,5 @@
 // A result written to the file that an argument names. What that file held is lost only when the whole result stands in its place: it is
 // written to a new file beside it, which then takes its name.
-ghost use Prim.Native.Nat.{_≤_};
-ghost use lib.ListN.{length};
 use super::calls::FAILED;
 use super::calls::status_of;
 use super::paths::is_open_file;

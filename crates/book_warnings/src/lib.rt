@@ -1,4 +1,4 @@
-// book_warnings: what a program tells of a text that it assembles: the sentence of its fault, and the states that no arc leads to.
+// book_warnings: what a program tells of a text that it assembles: the sentence of its fault, and the states that no chain of arcs leads to.
 ghost use Prim.Native.Nat.{_<_};
 use book_console::words::say;
 use book_console::words::say_argument;
@@ -83,7 +83,7 @@ fn say_name(file: i32, text: &[u8], word: Word) {
     say(file, &text[from..to]);
 }
 
-// That no arc leads to a state, at the place where it is declared; nothing of a state of a path's own, which has no name.
+// That no chain of arcs leads to a state, at the place where it is declared; nothing of a state of a path's own, which has no name.
 // Cost: one pass over the text up to there.
 fn warn_of(file: i32, argument: usize, text: &[u8], word: Word) {
     if word.to <= word.from {
@@ -91,7 +91,10 @@ fn warn_of(file: i32, argument: usize, text: &[u8], word: Word) {
     }
     let place = place_in(text, word.from);
     say_place(file, argument, place.line, place.column);
-    say(file, b"warning: no arc leads to the state ");
+    say(
+        file,
+        b"warning: no chain of arcs leads from the first state to the state ",
+    );
     say_name(file, text, word);
     say(file, b"\n");
 }

@@ -14,7 +14,7 @@ fn say_declaration_fault(file: i32, what: u8) {
         5 => say(file, b"the symbol is declared a second time"),
         6 => say(
             file,
-            b"a letter is one character, or 0x and two hexadecimal digits",
+            b"a letter is one byte, as it stands or as 0x and two hexadecimal digits",
         ),
         7 => say(file, b"there are more than 64 letters"),
         8 => say(
@@ -33,7 +33,7 @@ fn say_declaration_fault(file: i32, what: u8) {
 fn say_arc_fault(file: i32, what: u8) {
     match what {
         12 => say(file, b"no line in front declares this state"),
-        13 => say(file, b"this is none of the letters, nor empty"),
+        13 => say(file, b"this is none of the letters"),
         14 => say(
             file,
             b"an arc has a state, a letter or empty, and a state; a path a state, a word and a state",

@@ -2,7 +2,7 @@
 use mathlib.Core.Path.{_≡_}
 use mathlib.Core.List.{List}
 use Prim.Native.Nat.{ℕ, _+_, _-_, _≤_, _<_}
-use lib.ListN.{getD, length}
+use lib.ListN.{getD}
 use Rattle.io.specs.Counts.{Counts}
 use Rattle.book_words.specs.declared.Got.{Got}
 use Rattle.book_words.specs.declared.Got.the-variants.{Bytes, Nothing}

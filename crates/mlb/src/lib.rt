@@ -17,7 +17,7 @@ fn say_commands(file: i32) -> bool {
     );
     say(
         file,
-        b"  compare FIRST SECOND               whether the two accept the same words\n  show [--dot] FILE                  a file as a text, or as a graph\n  assemble TEXT RESULT               the file of the automaton that a text tells\nstatus: 0 yes (same, all accepted, written), 1 no (different, a word not accepted), 2 refused or failed\n",
+        b"  compare [FIRST SECOND]             whether the two accept the same words\n  show [--dot] FILE                  a file as a text, or as a graph\n  assemble TEXT RESULT               the file of the automaton that a text tells\nstatus: 0 yes (same, all accepted, written), 1 no (different, a word not accepted), 2 refused or failed\n",
     )
 }
 

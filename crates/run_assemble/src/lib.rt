@@ -1,6 +1,6 @@
 // run_assemble: the body of `bookassemble TEXT RESULT` and `mlb assemble TEXT RESULT`. Writes the file of the automaton that a text tells
 // (docs/TEXT.md) to RESULT, and tells how many bytes it has; or tells the text's first fault with its line and its column, and RESULT is left as
-// it was. States that no arc leads to are warned of. The status is 0 where the file was written, else 2.
+// it was. States that no chain of arcs leads to are warned of. The status is 0 where the file was written, else 2.
 ghost use Prim.Native.Nat.{_≤_};
 use book_assembling::Assembled;
 use book_assembling::assemble;

@@ -26,12 +26,13 @@ fn say_fault(file: i32, number: u8, place: usize) {
     say(file, b"\n");
 }
 
-// The last line of a listing; answers the status. Cost: the line.
+// The last line of a listing; a fault is told on standard error too, since a listing may go to a file. Answers the status. Cost: the line.
 fn list_end(reading: Reading) -> u8 {
     match reading {
         Reading::Valid(_) => status_of(say(1, b"-- no fault\n")),
         Reading::Refused(number, place) => {
             say_fault(1, number, place);
+            say_fault(2, number, place);
             FAILED
         }
     }

@@ -41,8 +41,8 @@ fn thin(w: &mut [u64], block: Block, letters: usize) -> Block
 
 // Makes the automaton of an open file ready: its rows are closed, the final configurations and the numbers of the letters noted, and the
 // listed arcs chained by letter and source. Answers its block, of which arcs that add nothing may be dropped.
-// Cost: count * count unions of rows at most, where count is the number of configurations; 132 words for each letter; and three rows for each
-// listed arc.
+// Cost: count * count unions of rows at most, where count is the number of configurations; 68 words for each letter and 132
+// more; a step for each listed arc, and where arcs are dropped that of `table_prune::prune`.
 pub fn make_ready(file: &[u8], c: Counts, w: &mut [u64], block: Block) -> Block
     requires { ⌜ Holds (now file) c (now w) block ⌝ }
     ensures same { λ _. ⌜ length (now (w .exit)) ≡ length (now (w .entry)) ⌝ }

@@ -76,10 +76,11 @@ pub enum Membership {
 // in this order: fewer than 8,192 working words, 24 (the automaton at fault is 0); a fault of the file, as `format::read` tells it; more
 // than 256 configurations, 21. The working words are free again afterwards, whatever they held before. All configurations are numbered,
 // the runs of empty moves among them are closed once, and the set of live configurations goes from one letter of the word to the next.
-// Cost: b + k * o + k * k + n * (a + k * o) steps, where b is the number of bytes of the file, o that of its arcs and operations, a that
-// of its letters, k that of its configurations, 256 at most, and n that of the bytes of the word. An arc that passes costs besides a
-// look into the table of configurations: as many steps as configurations have the key of its target, k at most. Where there are at
-// most 2,048 plain arcs, the word costs no such looks, and a letter one step for each plain arc with that letter. Nothing is allocated.
+// Cost: b + 68 * a + k * o + k * k + n * k * o steps, where b is the number of bytes of the file, a that of its letters, o that of its arcs
+// and operations, k that of its configurations, 256 at most, and n that of the word's bytes up to the one behind which nothing is live. An
+// arc that passes costs besides a look into the table of configurations: as many steps as configurations have the key of its target, k at
+// most. Where there are at most 2,048 plain arcs, the word costs no such looks, and a letter one step for each plain arc with that letter
+// that leaves a live configuration. Nothing is allocated.
 pub fn accepts(file: &[u8], word: &[u8], work: &mut [u64]) -> Membership
     ensures same { λ _. ⌜ length (now (work .exit)) ≡ length (now (work .entry)) ⌝ }
     ensures answer { λ r. ⌜ r ≡ membershipOf (now (file .entry)) (now (word .entry)) (length (now (work .entry))) ⌝ }

@@ -9,13 +9,13 @@ use native.Mathlib.Omega.{arith}
 use borrow.Author.Tests.{le-ltb, lt-ltb}
 use lib.Dec.{leb}
 use lib.ListN.{getD, length}
-use Rattle.word_fields.specs.Frame.{Kept, KeptBut}
+use Rattle.word_fields.specs.Frame.{Kept}
 use Rattle.word_fields.proofs.Laws.{chain-kept}
 use Rattle.word_rows.specs.Rows.{related}
 use Rattle.word_rows.proofs.Laws.{row-same}
 use Rattle.word_sets.specs.Sets.{inSet}
 use Rattle.table_sets.specs.Stepping.{letterAt}
-use Rattle.table_sets.proofs.Laws.{SameBlock, arc-kept, block-but, block-kept, start-kept, starts-kept}
+use Rattle.table_sets.proofs.Laws.{SameBlock, arc-kept, block-kept, start-kept, starts-kept}
 use Rattle.word_layout.specs.Layout.{byteLetters, letterHeads, letterHeadsEnd, letterNexts, letterSources}
 use Rattle.word_layout.specs.declared.Block.{Block}
 use Rattle.table_letters.specs.Lettered.{Lettered, arcKey, keyOf, lastStart, rowOf, sourceOf}
@@ -75,7 +75,3 @@ pub lettered-kept : {letters a b : ℕ} {w w' : List ℕ} {block : Block} → Ke
 lettered-kept k h s l =
     lettered-same (block-kept k (⊎-elim (λ u. inl u) (λ u. inr (omega (arith, l .above))) s)) (λ i g. k .below i (omega arith))
     (λ i g u. ⊎-elim (λ v. k .above i (omega (arith, l .above))) (λ v. k .below i (omega arith)) s) l
-
--- the same of two parts, the first between the heads and the block, the second above all of them
-pub lettered-but : {letters a b c d : ℕ} {w w' : List ℕ} {block : Block} → KeptBut a b c d w w' → letterHeadsEnd ≤ a → b ≤ block .base → byteLetters ≤ c → Lettered letters w block → Lettered letters w' block
-lettered-but k h g s l = lettered-same (block-but k g (inl (omega (arith, l .above)))) (λ i u. k .below i (omega arith)) (λ i u v. k .between i (omega (arith, l .above)) (omega arith)) l
