@@ -1,4 +1,6 @@
 // compare: do two automata accept the same words? (document 01, 'Comparing')
+#![tactic(auto)]
+
 ghost use Rattle.std.specs.Prelude.{◌≡◌, false, true, ◌≤◌, length};
 ghost use Rattle.file_fields.specs.Parts.{counts_of};
 ghost use Rattle.file_pair.specs.Lettered.{Lettered, automaton_over};

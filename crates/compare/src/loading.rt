@@ -17,14 +17,14 @@ use table_relettering::reletter;
 use word_layout::{Block, FIRST_SETS};
 
 // An automaton that is ready to be compared: its block, and the set of its final configurations.
-#[derive(Drop)]
+#[derive(Clone, Copy)]
 pub struct Standing {
     pub block: Block,
     pub finals: [u64; 4],
 }
 
 // What loading answers: the number of the refusal, 21 or 22, or 0; and where it is 0, the automaton.
-#[derive(Drop)]
+#[derive(Clone, Copy)]
 pub struct Loaded {
     pub refusal: u8,
     pub standing: Standing,

@@ -1,10 +1,11 @@
 // compare_promise: what comparing answers, and what is promised of it; no function (document 01, 'Comparing').
 // specs/ holds Comparing, what is answered, with which the contract of the call is an equation; Promised, what that means. The call is
 // the crate compare's.
+#![tactic(auto)]
 
 // What comparing answers: the two accept the same words; or they differ, with the automaton that accepts the shown word and that
 // word's length; or the number of a refusal and the automaton at fault. The number of pairs is that of the distinct pairs of live sets.
-#[derive(Drop)]
+#[derive(Clone, Copy)]
 pub enum Comparison {
     Same(u64),
     Different {

@@ -1,6 +1,8 @@
 // compare_search: all pairs of live sets that words lead to, of two automata that stand in blocks of the lent words. The pairs are the rows of a
 // table; they are walked in number order, each by all letters in their order, so pairs are met in the order of words, each by the first
 // word that leads to it.
+#![tactic(auto)]
+
 ghost use Rattle.std.specs.Prelude.{◌≡◌, List, [], ◌∷◌, ◌<◌};
 ghost use Rattle.std.proofs.Math.Option.{some};
 ghost use Rattle.std.proofs.Math.ListN.{get_elem?};

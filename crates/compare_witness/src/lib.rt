@@ -1,4 +1,6 @@
 // compare_witness: the first row of a table of live sets that differs, and the word by which a row was met.
+#![tactic(auto)]
+
 ghost use Rattle.std.specs.Prelude.{◌≡◌, List, ◌++◌, map, ℕ, ◌≤◌, ◌<◌, drop, get_or, length};
 ghost use Rattle.std.proofs.Math.ListN.{get_elem?};
 ghost use Rattle.automata.specs.Live.{meets};

@@ -1,4 +1,6 @@
 // count: how many words of one length are accepted, and how many are not? (document 02, change 2)
+#![tactic(auto)]
+
 ghost use Rattle.std.specs.Prelude.{◌≡◌, ◌^◌, ◌≤◌, length};
 ghost use Rattle.file_fields.specs.declared.Reading.TheVariants.{Valid};
 ghost use Rattle.format.specs.Decoding.{automaton_of};

@@ -1,5 +1,7 @@
 // count_rounds: how many words of one length lead from each live set to one that is accepted, a length at a time. The numbers of the sets that
 // the letters lead to are noted once for as many sets as there is room for, and anew in every round for the others.
+#![tactic(auto)]
+
 ghost use Rattle.std.specs.Prelude.{◌≡◌, ℕ, ◌+◌, ◌*◌, ◌≤◌, ◌<◌, length};
 ghost use Rattle.automata.specs.Lengths.{accepted_many};
 ghost use Rattle.automata.specs.Unfolding.{configurations, final_set};

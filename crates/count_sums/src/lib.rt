@@ -1,5 +1,7 @@
 // count_sums: what counting does with words and numbers alone: a set's sum over its letters, the counts of one length taken over from those
 // of the next, how many words of a length there are.
+#![tactic(auto)]
+
 ghost use Rattle.std.specs.Prelude.{◌≡◌, ℕ, ◌+◌, ◌*◌, ◌≤◌, ◌<◌, get_or, length};
 ghost use Rattle.word_fields.specs.Frame.{Kept};
 ghost use Rattle.word_layout.specs.Layout.{counts, next_counts};
@@ -9,7 +11,7 @@ use word_fields::get16;
 use word_layout::{COUNTS, NEXT_COUNTS, TARGETS};
 
 // How many words of a length there are: so many, or more than 64 bits hold.
-#[derive(Drop)]
+#[derive(Clone, Copy)]
 pub enum Total {
     Over,
     Words(u64),

@@ -1,4 +1,6 @@
 // count_targets: the numbers of the live sets that the letters lead to.
+#![tactic(auto)]
+
 ghost use Rattle.std.specs.Prelude.{◌≡◌, ℕ, ◌+◌, ◌*◌, ◌≤◌, ◌<◌, length};
 ghost use Rattle.word_fields.specs.Fields.{field};
 ghost use Rattle.word_fields.specs.Frame.{Kept};

@@ -1,4 +1,6 @@
 // file_arc_writing: the bytes of an arc: four bytes, and the operations written behind the four bytes already there.
+#![tactic(auto)]
+
 ghost use Rattle.std.specs.Prelude.{◌≡◌, ◌∷◌, [], map, ◌++◌, ℕ, ◌+◌, ◌*◌, ◌<◌, ◌≤◌, length};
 ghost use Rattle.automata.specs.Automaton.{writes};
 ghost use Rattle.automata.specs.Lists.{count_from};
@@ -12,7 +14,7 @@ ghost use Rattle.file_arc_writing.specs.Arcs.{AreBytes, KnownOps, arc_with};
 use format::fields::{byte, operation_register};
 
 // The first three bytes of an arc: from-state, letter (255 is the empty move), to-state.
-#[derive(Drop)]
+#[derive(Clone, Copy)]
 pub struct Fields {
     pub source: usize,
     pub letter: usize,

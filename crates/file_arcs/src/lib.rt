@@ -1,5 +1,7 @@
 // file_arcs: reading the arcs of a file, each four bytes and its operations (document 01, 'The book file'). Tests are joined by `&`,
 // which costs no branch: what they look at is there.
+#![tactic(auto)]
+
 ghost use Rattle.std.specs.Prelude.{◌≡◌, true, ℕ, ◌+◌, ◌*◌, ◌<◌, ◌≤◌, length, get_or, drop};
 ghost use Rattle.file_fields.specs.Parts.{field_tests, well_op, well_ops, ops_front, arc_tests, arcs_tests, all_hold, first_fault};
 

@@ -5,7 +5,7 @@ ghost use Rattle.automata.specs.Letters.{key, keys};
 ghost use Rattle.file_fields.specs.Letters.{letter_number};
 
 // A byte as a letter: its number, or none.
-#[derive(Drop)]
+#[derive(Clone, Copy)]
 pub enum Letter {
     At(u8),
     None,

@@ -1,5 +1,7 @@
 // file_fields: what reading a file answers, the numbers that stand at its places, its header and its letters (document 01, 'The book
 // file'). Each function computes one definition of specs/.
+#![tactic(auto)]
+
 ghost use Rattle.std.specs.Prelude.{◌≡◌};
 ghost use Rattle.file_fields.specs.Parts.{number_of};
 
@@ -8,7 +10,7 @@ pub mod header;
 pub mod letters;
 
 // The counts that a file's header says: letters, states, registers, register symbols, arcs.
-#[derive(Drop)]
+#[derive(Clone, Copy)]
 pub struct Counts {
     pub letters: usize,
     pub states: usize,
@@ -18,7 +20,7 @@ pub struct Counts {
 }
 
 // What reading a file answers: its counts, or the number of its first fault and its place, in bytes from the file's start.
-#[derive(Drop)]
+#[derive(Clone, Copy)]
 pub enum Reading {
     Valid(Counts),
     Refused(u8, usize),

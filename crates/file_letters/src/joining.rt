@@ -6,7 +6,7 @@ ghost use Rattle.relettering.specs.Relettering.{inserted, joined_letters};
 use super::numbering::{number_letters, place_of};
 
 // The joined list and how many letters it has; and for each of the two lists the new numbers of its letters.
-#[derive(Drop)]
+#[derive(Clone, Copy)]
 pub struct Lettering {
     pub letters: [u8; 64],
     pub count: usize,
@@ -15,7 +15,7 @@ pub struct Lettering {
 }
 
 // A list of letters in its first `count` bytes.
-#[derive(Drop)]
+#[derive(Clone, Copy)]
 struct Joined {
     letters: [u8; 64],
     count: usize,

@@ -1,5 +1,7 @@
 // file_pair: two files that a call is handed together: their counts, or the refusal of the first fault; and their letters (document 01, the
 // order of refusals; document 02, change 6). What joins and compares them goes on from here.
+#![tactic(auto)]
+
 ghost use Rattle.std.specs.Prelude.{◌≡◌, ◌≤◌, length, take};
 ghost use Rattle.automata.specs.Words.{places, same_letters};
 ghost use Rattle.file_fields.specs.declared.Reading.TheVariants.{Valid};
@@ -13,7 +15,7 @@ use format::fields::flags_at;
 use format::{Counts, Reading};
 
 // Whether their letter lists agree, and their counts; or a refusal's number and the automaton at fault.
-#[derive(Drop)]
+#[derive(Clone, Copy)]
 pub enum Files {
     Valid(bool, Counts, Counts),
     Fault(u8, u8),

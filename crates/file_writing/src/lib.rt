@@ -1,11 +1,12 @@
 // file_writing: the bytes of an automaton written into a lent output, part by part (document 01, 'The book file').
 // Each writer puts its bytes at a place, leaves all else as it was, and answers the place behind them.
+#![tactic(auto)]
 
 pub mod front;
 pub mod parts;
 
 // What a call that writes a file answers: its length in bytes, or the refusal's number and the automaton at fault.
-#[derive(Drop)]
+#[derive(Clone, Copy)]
 pub enum Written {
     Bytes(usize),
     Refused(u8, u8),

@@ -1,5 +1,7 @@
 // format: reading the file of an automaton (document 01, 'The book file', and the refusals of a file; document 02, changes 4 and 5).
 // Each function computes one definition of specs/. file_laws' proofs/Promise.antt says what callers may rely on.
+#![tactic(auto)]
+
 ghost use Rattle.std.specs.Prelude.{◌≡◌};
 ghost use Rattle.file_fields.specs.Parts.{counts_of, first_fault};
 ghost use Rattle.format.specs.Reading.{front_tests, reading_of};

@@ -4,6 +4,8 @@
 // the letters of both (document 02, change 6): the joined file lists the first file's bytes and those of the second that match none of
 // them, ascending, and its arcs have the numbers of their letters there. It is written by each file's own numbers first; where the two lists
 // differ, the letters of both and their numbers are then put in. So files with the same letters pay no more than a few tests for it.
+#![tactic(auto)]
+
 ghost use Rattle.std.specs.Prelude.{◌≡◌, cond, ◌+◌, ◌≤◌, length};
 ghost use Rattle.automata.specs.Joins.{union, concatenation, intersection, closure};
 ghost use Rattle.format.specs.Decoding.{automaton_of};

@@ -1,4 +1,6 @@
 // join_closure: a new state 0, initial and final, with an empty move into the automaton, and a return from each final state.
+#![tactic(auto)]
+
 ghost use Rattle.std.specs.Prelude.{◌≡◌, ◌+◌, ◌*◌, ◌≤◌, length};
 ghost use Rattle.automata.specs.Automaton.{Automaton};
 ghost use Rattle.automata.specs.Joins.{final_states, clearing, closure};

@@ -1,6 +1,8 @@
 // join_concatenation: an empty move from each final state of the first automaton to the initial state of the second, whose states
 // stand behind those of the first, and whose registers from 1 up behind its registers. Each letter has the number that it has in its own
 // file, and there is room for the letters of both; which letters these are plays no part.
+#![tactic(auto)]
+
 ghost use Rattle.std.specs.Prelude.{◌≡◌, ◌+◌, ◌≤◌, length};
 ghost use Rattle.automata.specs.Automaton.{Automaton};
 ghost use Rattle.automata.specs.Joins.{final_states, concatenation};

@@ -1,6 +1,8 @@
 // join_intersection: the intersection of two automata in files (document 01, 'Joining books'). Its arcs are counted first, so that a
 // result beyond a limit is refused before anything is written; and they are counted only where states and registers are few enough. It has
 // the numbers of the first file's letters, and room for the letters of both (document 02, change 6).
+#![tactic(auto)]
+
 ghost use Rattle.std.specs.Prelude.{◌≡◌, List, [], ℕ, ◌+◌, ◌*◌, ◌≤◌, length};
 ghost use Rattle.automata.specs.Automaton.{Automaton};
 ghost use Rattle.automata.specs.Joins.{intersection};

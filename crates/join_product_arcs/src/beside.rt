@@ -16,7 +16,7 @@ use format::fields::{arc_size, byte, first_arc};
 
 // How many states the other has, and where an empty move stands beside one of them: state s beside state i is
 // s * scale + i * step. The registers from 1 up move by shift.
-#[derive(Drop)]
+#[derive(Clone, Copy)]
 pub struct Beside {
     pub states: usize,
     pub scale: usize,

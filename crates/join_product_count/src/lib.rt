@@ -1,5 +1,7 @@
 // join_product_count: the arcs of an intersection, group by group (document 01, 'Joining books'): how many they are, how many bytes they take,
 // and whether one has more than 8 operations, before any is written. They have the numbers of the first file's letters (document 02, change 6).
+#![tactic(auto)]
+
 ghost use Rattle.std.specs.Prelude.{◌≡◌, ◌++◌, ℕ, ◌+◌, ◌<◌, ◌≤◌, length, drop};
 ghost use Rattle.automata.specs.Automaton.{Arc};
 ghost use Rattle.automata.specs.Joins.{both_arcs, left_arcs};
@@ -15,7 +17,7 @@ use format::fields::{arc_size, byte, first_arc};
 use join_parts::answer::larger;
 
 // What a count says of arcs: how many they are, how many bytes they take, whether one has more than 8 operations.
-#[derive(Drop)]
+#[derive(Clone, Copy)]
 pub struct Tally {
     pub arcs: usize,
     pub size: usize,

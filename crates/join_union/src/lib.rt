@@ -1,5 +1,7 @@
 // join_union: a new state 0 with an empty move into each automaton; the states of the second stand behind those of the first. Each letter
 // has the number that it has in its own file, and there is room for the letters of both; which letters these are plays no part.
+#![tactic(auto)]
+
 ghost use Rattle.std.specs.Prelude.{◌≡◌, ◌+◌, ◌≤◌, length};
 ghost use Rattle.automata.specs.Automaton.{Automaton};
 ghost use Rattle.automata.specs.Joins.{union};

@@ -1,5 +1,7 @@
 // line_answers: the line that tells an answer, written into bytes that the caller lends.
 // Each function answers how many bytes the line takes, its newline included; what has no room is cut.
+#![tactic(auto)]
+
 ghost use Rattle.line_text.specs.Writing.{Writes};
 ghost use Rattle.line_answers.specs.Lines.{refusal_line, refused_line, valid_line, reading_line, count_line, membership_line, wrote_line, written_line};
 

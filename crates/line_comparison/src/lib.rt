@@ -1,5 +1,7 @@
 // line_comparison: the line that tells what comparing answers, written into bytes that the caller lends.
 // Each function answers how many bytes the line takes, its newline included; what has no room is cut.
+#![tactic(auto)]
+
 ghost use Rattle.std.specs.Prelude.{◌≤◌, length};
 ghost use Rattle.line_text.specs.Writing.{Writes};
 ghost use Rattle.line_comparison.specs.ComparisonLines.{comparison_case_line, comparison_line, different_line, line_of, same_line, taker_line};

@@ -1,5 +1,7 @@
 // line_counts: the line that tells how many words of one length are accepted and how many are not, written into bytes that the caller
 // lends. Each function answers how many bytes the line takes, its newline included; what has no room is cut.
+#![tactic(auto)]
+
 ghost use Rattle.line_text.specs.Writing.{Writes};
 ghost use Rattle.line_counts.specs.CountLines.{counted_line, word_count_line};
 

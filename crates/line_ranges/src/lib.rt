@@ -1,5 +1,7 @@
 // line_ranges: the line that tells what is answered of a word with ranges, written into bytes that the caller lends. The function answers
 // how many bytes the line takes, its newline included; what has no room is cut.
+#![tactic(auto)]
+
 ghost use Rattle.line_text.specs.Writing.{Writes};
 ghost use Rattle.line_ranges.specs.RangeLines.{ranged_line};
 

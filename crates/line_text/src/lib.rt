@@ -1,6 +1,8 @@
 // line_text: numbers, bytes and words as ASCII text in bytes that the caller lends (document 01, `bookcompare`).
 // Each function writes at a place and answers the place behind what it wrote, so that a line is assembled by one call
 // after the other. What has no room is cut: an answer below the length of `out` tells that nothing was.
+#![tactic(auto)]
+
 ghost use Rattle.std.specs.Prelude.{◌≡◌, ◌<◌, [], ◌∷◌, take};
 ghost use Rattle.line_text.specs.Writing.{Writes};
 ghost use Rattle.line_text.specs.Digits.{decimal_of, digit_of, hex_digits, hex_of};

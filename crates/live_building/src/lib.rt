@@ -1,5 +1,7 @@
 // live_building: the only automaton of a call, built for its live sets to be met: its block right behind the building's tables, and behind it
 // the place of the table. Where its plain arcs are listed, those that add nothing to a step are dropped.
+#![tactic(auto)]
+
 ghost use Rattle.std.specs.Prelude.{◌≡◌, ◌≤◌, length};
 ghost use Rattle.file_fields.specs.declared.Reading.TheVariants.{Valid};
 ghost use Rattle.format.specs.Reading.{reading_of};

@@ -1,5 +1,7 @@
 // live_search: all live sets of one automaton that words lead to, from any live set on. The sets are walked in number order, each by all
 // letters in their order, so sets are met in the order of words, each by the first word that leads to it.
+#![tactic(auto)]
+
 ghost use Rattle.std.specs.Prelude.{◌≡◌, List, [], ◌∷◌, ◌+◌, ◌<◌};
 ghost use Rattle.std.proofs.Math.Option.{some};
 ghost use Rattle.std.proofs.Math.ListN.{get_elem?};

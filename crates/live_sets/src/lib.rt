@@ -1,6 +1,8 @@
 // live_sets: a table with one set to a row, of one automaton: a set found again by its key, one that is met, and the letters of a range from a
 // row. Crates live_table and live_letters have the same of pairs, and look at both sets; comparing has those to itself, so that the compiler
 // can write its places into them.
+#![tactic(auto)]
+
 ghost use Rattle.std.specs.Prelude.{◌≡◌, ◌↔◌, ◌+◌, ◌-◌, ◌*◌, ◌≤◌, ◌<◌, T};
 ghost use Rattle.automata.specs.Lists.{count_from};
 ghost use Rattle.word_fields.specs.Chains.{Found};

@@ -1,6 +1,8 @@
 // live_table: a table of live sets in lent words, at places that the caller chooses. A row has two sets, one of each of two automata; or
 // it has one set, which is then both its left and its right one. A row is found again along the chain of its key, so that meeting one
 // does not look at all of them; and it has the row and the letter by which it was met.
+#![tactic(auto)]
+
 ghost use Rattle.std.specs.Prelude.{◌≡◌, ◌↔◌, ◌≤◌, ◌<◌, T};
 ghost use Rattle.word_fields.specs.Chains.{Found};
 ghost use Rattle.word_layout.specs.Layout.{Tabled};
@@ -13,7 +15,7 @@ use word_rows::{load, store};
 use word_sets::same;
 
 // How many rows there are now, or that there is no room for one more.
-#[derive(Drop)]
+#[derive(Clone, Copy)]
 pub enum Grown {
     TooMany,
     Total(usize),

@@ -1,4 +1,6 @@
 // ranges: a word of which each letter is known only to lie in a range: is every filling accepted, are some, or none? (document 02, change 7)
+#![tactic(auto)]
+
 ghost use Rattle.std.specs.Prelude.{◌≡◌, Bool, false, not, List, ℕ, ◌≤◌, length};
 ghost use Rattle.std.specs.Bool.{beq};
 ghost use Rattle.automata.specs.Lists.{any};

@@ -1,6 +1,8 @@
 // ranges_walk: the live sets behind the places of a word with ranges, one place after the other. Those before a place stand in rows of their own;
 // a step from each, by the letters of the range, leads to those behind it, which are met in the table of live sets, each once, and then become
 // those before the next place.
+#![tactic(auto)]
+
 ghost use Rattle.std.specs.Prelude.{◌≡◌, Bool, false, List, [], ◌∷◌, map, ℕ, ◌+◌, ◌-◌, ◌≤◌, ◌<◌, length};
 ghost use Rattle.automata.specs.Exploration.{add_all};
 ghost use Rattle.automata.specs.Lists.{count_from};

@@ -1,6 +1,8 @@
-// registered_automata: the calls for programs in C, Rust and other languages, as functions of a static library.
-// A slice is a pointer and a length. c/registered_automata.h says what a caller needs to know of each. Reading and membership are those of the
-// crate `scanner`, which is such a library by itself.
+// registered_automata: the calls for programs in C, Rust and other languages; registered_automata_c makes them a static library.
+// c/registered_automata.h says what a caller needs to know of each. Reading and membership are those of the crate `scanner`, which is such a
+// library by itself in scanner_c.
+#![tactic(auto)]
+
 ghost use Rattle.std.specs.Prelude.{◌≡◌, length};
 ghost use Rattle.automata.specs.Joins.{union, concatenation, intersection, closure};
 ghost use Rattle.automata.specs.Unfolding.{unfolded};
@@ -26,16 +28,14 @@ use scanner::results::{Membership, Reading, WordsJudged};
 pub mod results;
 
 // Is the file valid? Refusals and cost: `format::read`.
-#[unsafe(no_mangle)]
-pub extern "C" fn ra_read(file: &[u8]) -> Reading
+pub fn ra_read(file: &[u8]) -> Reading
     ensures { result ≡ reading_fields (reading_of file.now) }
 {
     scanner::ra_read(file)
 }
 
 // Does the automaton of the file accept the word? Refusals and cost: `table::accepts`.
-#[unsafe(no_mangle)]
-pub extern "C" fn ra_accepts(file: &[u8], word: &[u8], work: &mut [u64]) -> Membership
+pub fn ra_accepts(file: &[u8], word: &[u8], work: &mut [u64]) -> Membership
     ensures same { length work.new ≡ length work.old }
     ensures answer { result ≡ membership_fields (membership_of file.now word.now (length work.old)) }
 {
@@ -44,8 +44,7 @@ pub extern "C" fn ra_accepts(file: &[u8], word: &[u8], work: &mut [u64]) -> Memb
 
 // Which words, one behind the other and each with the separator behind it, does the automaton of the file accept? Refusals and cost:
 // `table_words::accepts_words`.
-#[unsafe(no_mangle)]
-pub extern "C" fn ra_accepts_words(
+pub fn ra_accepts_words(
     file: &[u8],
     words: &[u8],
     separator: u8,
@@ -60,8 +59,7 @@ pub extern "C" fn ra_accepts_words(
 }
 
 // Writes the automaton without registers that accepts the same words. Refusals and cost: `unfold::unfold`.
-#[unsafe(no_mangle)]
-pub extern "C" fn ra_unfold(file: &[u8], work: &mut [u64], out: &mut [u8]) -> Written
+pub fn ra_unfold(file: &[u8], work: &mut [u64], out: &mut [u8]) -> Written
     ensures same { length work.new ≡ length work.old }
     ensures answer { result ≡ written_fields (unfolding_of file.now (length work.old) (length out.old)) }
     ensures output { out.new ≡ output_of (unfolding_of file.now (length work.old) (length out.old)) (bytes_of (unfolded (automaton_of file.now) 256)) out.old }
@@ -70,8 +68,7 @@ pub extern "C" fn ra_unfold(file: &[u8], work: &mut [u64], out: &mut [u8]) -> Wr
 }
 
 // Writes the union of the two automata. Refusals and cost: `join::union`.
-#[unsafe(no_mangle)]
-pub extern "C" fn ra_union(first: &[u8], second: &[u8], out: &mut [u8]) -> Written
+pub fn ra_union(first: &[u8], second: &[u8], out: &mut [u8]) -> Written
     ensures answer { result ≡ written_fields (joined_of union first.now second.now (length out.old)) }
     ensures output { out.new ≡ output_of (joined_of union first.now second.now (length out.old)) (bytes_of (join_of union first.now second.now)) out.old }
 {
@@ -79,8 +76,7 @@ pub extern "C" fn ra_union(first: &[u8], second: &[u8], out: &mut [u8]) -> Writt
 }
 
 // Writes the concatenation of the two automata. Refusals and cost: `join::concatenate`.
-#[unsafe(no_mangle)]
-pub extern "C" fn ra_concatenate(first: &[u8], second: &[u8], out: &mut [u8]) -> Written
+pub fn ra_concatenate(first: &[u8], second: &[u8], out: &mut [u8]) -> Written
     ensures answer { result ≡ written_fields (joined_of concatenation first.now second.now (length out.old)) }
     ensures output { out.new ≡ output_of (joined_of concatenation first.now second.now (length out.old)) (bytes_of (join_of concatenation first.now second.now)) out.old }
 {
@@ -88,8 +84,7 @@ pub extern "C" fn ra_concatenate(first: &[u8], second: &[u8], out: &mut [u8]) ->
 }
 
 // Writes the intersection of the two automata. Refusals and cost: `join::intersect`.
-#[unsafe(no_mangle)]
-pub extern "C" fn ra_intersect(first: &[u8], second: &[u8], out: &mut [u8]) -> Written
+pub fn ra_intersect(first: &[u8], second: &[u8], out: &mut [u8]) -> Written
     ensures answer { result ≡ written_fields (joined_of intersection first.now second.now (length out.old)) }
     ensures output { out.new ≡ output_of (joined_of intersection first.now second.now (length out.old)) (bytes_of (join_of intersection first.now second.now)) out.old }
 {
@@ -97,8 +92,7 @@ pub extern "C" fn ra_intersect(first: &[u8], second: &[u8], out: &mut [u8]) -> W
 }
 
 // Writes the closure of the automaton. Refusals and cost: `join::close`.
-#[unsafe(no_mangle)]
-pub extern "C" fn ra_close(file: &[u8], out: &mut [u8]) -> Written
+pub fn ra_close(file: &[u8], out: &mut [u8]) -> Written
     ensures answer { result ≡ written_fields (closed_of file.now (length out.old)) }
     ensures output { out.new ≡ output_of (closed_of file.now (length out.old)) (bytes_of (closure (automaton_of file.now))) out.old }
 {
@@ -106,13 +100,7 @@ pub extern "C" fn ra_close(file: &[u8], out: &mut [u8]) -> Written
 }
 
 // Do the two accept the same words? Else the first word that exactly one accepts is shown. Refusals and cost: `compare::compare`.
-#[unsafe(no_mangle)]
-pub extern "C" fn ra_compare(
-    first: &[u8],
-    second: &[u8],
-    work: &mut [u64],
-    word: &mut [u8],
-) -> Comparison
+pub fn ra_compare(first: &[u8], second: &[u8], work: &mut [u64], word: &mut [u8]) -> Comparison
     ensures same { length work.new ≡ length work.old }
     ensures answer { result ≡ comparison_fields (comparison_of first.now second.now (length work.old) (length word.old)) }
     ensures shown { word.new ≡ buffer_of (comparison_of first.now second.now (length work.old) (length word.old)) (shown_word first.now second.now) word.old }
@@ -121,8 +109,7 @@ pub extern "C" fn ra_compare(
 }
 
 // How many words of `size` letters does the automaton of the file accept, and how many not? Refusals and cost: `count::count_words`.
-#[unsafe(no_mangle)]
-pub extern "C" fn ra_count_words(file: &[u8], size: u64, work: &mut [u64]) -> WordCount
+pub fn ra_count_words(file: &[u8], size: u64, work: &mut [u64]) -> WordCount
     ensures same { length work.new ≡ length work.old }
     ensures answer { result ≡ word_count_fields (word_count_of file.now size (length work.old)) }
 {
@@ -131,8 +118,7 @@ pub extern "C" fn ra_count_words(file: &[u8], size: u64, work: &mut [u64]) -> Wo
 
 // Of a word of which each letter is known only to lie in a range: does the automaton of the file accept every filling, some, or none?
 // Refusals and cost: `ranges::accepts_ranges`.
-#[unsafe(no_mangle)]
-pub extern "C" fn ra_accepts_ranges(file: &[u8], places: &[u8], work: &mut [u64]) -> Ranged
+pub fn ra_accepts_ranges(file: &[u8], places: &[u8], work: &mut [u64]) -> Ranged
     ensures same { length work.new ≡ length work.old }
     ensures answer { result ≡ ranged_fields (ranged_of file.now places.now (length work.old)) }
 {

@@ -4,7 +4,7 @@ ghost use Rattle.registered_automata.specs.Results.{written_fields, comparison_f
 
 // The length of the file that was written, with number 0; or the number of the refusal, the automaton at fault, and length 0.
 #[repr(C)]
-#[derive(Drop)]
+#[derive(Clone, Copy)]
 pub struct Written {
     pub length: u64,
     pub number: u8,
@@ -14,7 +14,7 @@ pub struct Written {
 // The number of pairs, the automaton that alone accepts the shown word, 0 where the two accept the same words, and the length of
 // that word, with number 0; or the number of the refusal and the automaton at fault, and 0 elsewhere.
 #[repr(C)]
-#[derive(Drop)]
+#[derive(Clone, Copy)]
 pub struct Comparison {
     pub pairs: u64,
     pub length: u64,
@@ -26,7 +26,7 @@ pub struct Comparison {
 // How many words of the length are accepted and how many are not, with number 0; or the number of the refusal and the automaton at
 // fault, and 0 elsewhere.
 #[repr(C)]
-#[derive(Drop)]
+#[derive(Clone, Copy)]
 pub struct WordCount {
     pub accepted: u64,
     pub rejected: u64,
@@ -37,7 +37,7 @@ pub struct WordCount {
 // 1 where every filling is accepted, 2 where some are and some are not, 3 where none is, with number 0; or the number of the refusal and
 // the automaton at fault, and 0 elsewhere.
 #[repr(C)]
-#[derive(Drop)]
+#[derive(Clone, Copy)]
 pub struct Ranged {
     pub number: u8,
     pub automaton: u8,

@@ -1,5 +1,8 @@
-// scanner: reading a file and judging words by it, as a static library for programs that need nothing else; registered_automata has the same
-// functions among its own. A slice is a pointer and a length. c/registered_automata.h says what a caller needs to know of each.
+// scanner: reading a file and judging words by it, with answers as other languages take them; scanner_c makes it a static library for
+// programs that need nothing else, and registered_automata has the same functions among its own. c/registered_automata.h says what a caller
+// needs to know of each.
+#![tactic(auto)]
+
 ghost use Rattle.std.specs.Prelude.{◌≡◌, length};
 ghost use Rattle.format.specs.Reading.{reading_of};
 ghost use Rattle.table.specs.Membership.{membership_of};
@@ -11,16 +14,14 @@ use results::{Membership, Reading, WordsJudged, as_membership, as_reading, as_wo
 pub mod results;
 
 // Is the file valid? Refusals and cost: `format::read`.
-#[unsafe(no_mangle)]
-pub extern "C" fn ra_read(file: &[u8]) -> Reading
+pub fn ra_read(file: &[u8]) -> Reading
     ensures { result ≡ reading_fields (reading_of file.now) }
 {
     as_reading(format::read(file))
 }
 
 // Does the automaton of the file accept the word? Refusals and cost: `table::accepts`.
-#[unsafe(no_mangle)]
-pub extern "C" fn ra_accepts(file: &[u8], word: &[u8], work: &mut [u64]) -> Membership
+pub fn ra_accepts(file: &[u8], word: &[u8], work: &mut [u64]) -> Membership
     ensures same { length work.new ≡ length work.old }
     ensures answer { result ≡ membership_fields (membership_of file.now word.now (length work.old)) }
 {
@@ -29,8 +30,7 @@ pub extern "C" fn ra_accepts(file: &[u8], word: &[u8], work: &mut [u64]) -> Memb
 
 // Which words, one behind the other and each with the separator behind it, does the automaton of the file accept? Refusals and cost:
 // `table_words::accepts_words`.
-#[unsafe(no_mangle)]
-pub extern "C" fn ra_accepts_words(
+pub fn ra_accepts_words(
     file: &[u8],
     words: &[u8],
     separator: u8,

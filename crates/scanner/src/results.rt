@@ -5,7 +5,7 @@ ghost use Rattle.scanner.specs.Results.{reading_fields, membership_fields, judge
 // The counts of a valid file, with number 0; or the number of the fault, its place in bytes from the file's start, the automaton at
 // fault, which is 1, and counts of 0.
 #[repr(C)]
-#[derive(Drop)]
+#[derive(Clone, Copy)]
 pub struct Reading {
     pub letters: u64,
     pub states: u64,
@@ -20,7 +20,7 @@ pub struct Reading {
 // How many configurations are live after the word, and 1 where it is accepted, else 0, with number 0; or the number of the
 // refusal and the automaton at fault, and 0 elsewhere.
 #[repr(C)]
-#[derive(Drop)]
+#[derive(Clone, Copy)]
 pub struct Membership {
     pub live: u64,
     pub number: u8,
@@ -31,7 +31,7 @@ pub struct Membership {
 // How many words were judged, and how many bytes they take with the separator behind each, with number 0; or the number of the refusal and
 // the automaton at fault, and 0 elsewhere.
 #[repr(C)]
-#[derive(Drop)]
+#[derive(Clone, Copy)]
 pub struct WordsJudged {
     pub count: u64,
     pub bytes: u64,

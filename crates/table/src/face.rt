@@ -8,7 +8,7 @@ use table_sets::{end_of, first_arc, listed_arc};
 use word_layout::Block;
 
 // A plain arc without its source: its letter's byte and its target.
-#[derive(Drop)]
+#[derive(Clone, Copy)]
 pub struct Plain {
     pub letter: usize,
     pub target: usize,

@@ -1,4 +1,6 @@
 // table: the table of an automaton, built from its file in lent words; what crates above read of it; and membership.
+#![tactic(auto)]
+
 ghost use Rattle.std.specs.Prelude.{◌≡◌, length};
 ghost use Rattle.table.specs.Membership.{membership_of};
 ghost use Rattle.table.specs.Judging.{PreparedBy};
@@ -16,7 +18,7 @@ pub mod finals;
 pub mod judging;
 
 // What opening a file answers: its counts and the block of its automaton; or the number of a refusal and the automaton at fault.
-#[derive(Drop)]
+#[derive(Clone, Copy)]
 pub enum Opened {
     Refused(u8, u8),
     Open(Counts, Block),
@@ -64,7 +66,7 @@ pub fn prepare(file: &[u8], work: &mut [u64]) -> Opened
 
 // What membership answers: whether the word is accepted, with the number of configurations live after it; or the number of a
 // refusal and the automaton at fault.
-#[derive(Drop)]
+#[derive(Clone, Copy)]
 pub enum Membership {
     Accepted(u64),
     Rejected(u64),

@@ -1,4 +1,6 @@
 // table_configurations: a passing arc meets a configuration, which gets a number if it has none, and the plain arc is noted.
+#![tactic(auto)]
+
 ghost use Rattle.std.specs.Prelude.{◌≡◌, cond, ◌&&◌, ◌||◌, List, [], ◌∷◌, ◌++◌, ℕ, ◌+◌, ◌*◌, ◌^◌, ◌<◌, ◌≤◌, eqb, ltb, length, get_or};
 ghost use Rattle.automata.specs.Exploration.{add, number};
 ghost use Rattle.automata.specs.Live.{PlainArc};
@@ -19,7 +21,7 @@ use word_rows::{load, store};
 use word_sets::{empty, with};
 
 // What exploring finds: how many configurations and plain arcs there are, or that there are more than 256 configurations.
-#[derive(Drop)]
+#[derive(Clone, Copy)]
 pub enum Explored {
     TooMany,
     Tables { count: usize, plain: usize },

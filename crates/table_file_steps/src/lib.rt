@@ -1,5 +1,7 @@
 // table_file_steps: from a live set by one more letter, for all letters at once, straight from the arcs in the file. Where the plain
 // arcs are too many to be listed, each arc of a live configuration is performed again, and what it leads to is looked up.
+#![tactic(auto)]
+
 ghost use Rattle.std.specs.Prelude.{◌≡◌, ◌↔◌, ◌⊎◌, List, [], ℕ, ◌+◌, ◌≤◌, ◌<◌, T, drop};
 ghost use Rattle.automata.specs.Lists.{prepend};
 ghost use Rattle.automata.specs.Live.{PlainArc, by_letter};

@@ -1,6 +1,8 @@
 // table_letters: the listed plain arcs of a block found by their letter and source, so that a step by one letter looks at no arc but those
 // that it takes. Each listed arc is in the chain of its letter and its source; and each letter has the set of the configurations that its arcs
 // leave, so that of a live set only the configurations are gone through that the letter leads on from.
+#![tactic(auto)]
+
 ghost use Rattle.std.specs.Prelude.{◌≡◌, ◌↔◌, ◌⊎◌, List, ℕ, ◌+◌, ◌*◌, ◌≤◌, ◌<◌, T, length};
 ghost use Rattle.automata.specs.Live.{PlainArc, by_letter};
 ghost use Rattle.word_layout.specs.Layout.{block_end, letter_heads, letter_heads_end, letter_nexts, byte_letters, lettered_end};

@@ -1,4 +1,6 @@
 // table_list_steps: from a live set by one more letter, for all letters at once, over the listed plain arcs.
+#![tactic(auto)]
+
 ghost use Rattle.std.specs.Prelude.{◌≡◌, ◌↔◌, ◌⊎◌, List, [], ℕ, ◌+◌, ◌≤◌, ◌<◌, T, length};
 ghost use Rattle.automata.specs.Live.{PlainArc, by_letter, live};
 ghost use Rattle.word_fields.specs.Frame.{Kept};

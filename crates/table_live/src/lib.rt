@@ -1,5 +1,7 @@
 // table_live: the live sets of one automaton, by the listed plain arcs where all are listed, else by the arcs in the file: after one more
 // letter, for all letters at once; and after a word of bytes, one letter after the other.
+#![tactic(auto)]
+
 ghost use Rattle.std.specs.Prelude.{◌≡◌, List, ℕ, ◌+◌, ◌<◌, ◌≤◌, length};
 ghost use Rattle.std.proofs.Math.Option.{none, some};
 ghost use Rattle.automata.specs.Counting.{Apart};

@@ -1,6 +1,8 @@
 // table_prune: listed arcs that add nothing to a step are dropped. What a letter leads to from a configuration is the union of the rows of
 // its arcs' targets; an arc whose target's row is inside the union of those before it tells nothing. Nor does one whose target's row is
 // inside what another configuration leads to by that letter, one that is live whenever this one is.
+#![tactic(auto)]
+
 ghost use Rattle.std.specs.Prelude.{◌≡◌, ◌⊎◌, List, ℕ, ◌+◌, ◌≤◌, ◌<◌, T, length};
 ghost use Rattle.automata.specs.Live.{PlainArc};
 ghost use Rattle.word_layout.specs.Layout.{arcs_at, block_end, starts_at};

@@ -1,4 +1,6 @@
 // table_relettering: listed plain arcs get the new numbers of their letters (document 02, change 6).
+#![tactic(auto)]
+
 ghost use Rattle.std.specs.Prelude.{◌≤◌, length};
 ghost use Rattle.word_layout.specs.Layout.{block_end};
 ghost use Rattle.table_relettering.specs.Relisting.{Relisted};

@@ -1,5 +1,7 @@
 // table_sets: the plain arcs that a block lists, by configuration; and the live sets that a step by all letters at once leaves. Each
 // letter that is met has its set in a row from `acc` on; the mask `met` says which are, so nothing has to be cleared before.
+#![tactic(auto)]
+
 ghost use Rattle.std.specs.Prelude.{◌≡◌, cond, ◌||◌, ◌&&◌, ℕ, ◌+◌, ◌*◌, ◌/◌, ◌≤◌, ◌<◌, eqb, length};
 ghost use Rattle.word_layout.specs.Layout.{arcs_at, block_end, packed_arc, starts_at};
 ghost use Rattle.word_fields.specs.Fields.{field};
@@ -12,7 +14,7 @@ use word_fields::{get16, put16};
 use word_layout::{BLOCK_ARCS, BLOCK_STARTS};
 
 // A plain arc as a block lists it, without its source, which its place says: its letter's byte and its target.
-#[derive(Drop)]
+#[derive(Clone, Copy)]
 pub struct Listed {
     pub letter: usize,
     pub target: usize,

@@ -1,4 +1,6 @@
 // table_words: many words judged by one file, whose table is built once.
+#![tactic(auto)]
+
 ghost use Rattle.std.specs.Prelude.{◌≡◌, ◌+◌, ◌^◌, ◌<◌, ◌≤◌, length, drop};
 ghost use Rattle.format.specs.Decoding.{automaton_of};
 ghost use Rattle.table.specs.Judging.{Judging};
@@ -11,7 +13,7 @@ use word_layout::Block;
 
 // What judging many words answers: how many words were judged, and how many bytes they take, each with the separator behind it; or the
 // number of a refusal and the automaton at fault.
-#[derive(Drop)]
+#[derive(Clone, Copy)]
 pub enum Judged {
     Words { count: usize, bytes: usize },
     Refused(u8, u8),

@@ -1,5 +1,7 @@
 // unfold: the automaton without registers that accepts the same words (document 01, 'Unfolding').
 // A configuration becomes a state, and each arc that passes there an arc with one operation, the read of register 0.
+#![tactic(auto)]
+
 ghost use Rattle.std.specs.Prelude.{◌≡◌};
 ghost use Rattle.std.proofs.Math.ListN.{length};
 ghost use Rattle.automata.specs.Unfolding.{unfolded};

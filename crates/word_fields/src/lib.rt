@@ -1,4 +1,6 @@
 // word_fields: numbers of 16 bits in lent 64-bit words, four to a word; and chains by which entries are found again (chains.rt).
+#![tactic(auto)]
+
 ghost use Rattle.std.specs.Prelude.{◌≡◌, cond, ℕ, ◌+◌, ◌*◌, ◌/◌, ◌≤◌, ◌<◌, eqb, length};
 ghost use Rattle.word_fields.specs.Frame.{Kept};
 ghost use Rattle.word_fields.specs.Fields.{field};

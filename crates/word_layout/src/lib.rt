@@ -1,7 +1,8 @@
 // word_layout: where everything stands in the 8,192 lent words, each place once (specs/Layout.antt says what stands there).
+#![tactic(auto)]
 
 // The block of an automaton: the word that it starts at, and how many configurations and plain arcs the automaton has.
-#[derive(Drop)]
+#[derive(Clone, Copy)]
 pub struct Block {
     pub base: usize,
     pub count: usize,
@@ -9,7 +10,7 @@ pub struct Block {
 }
 
 // A table of live sets: the word that its rows start at, how many sets a row has, one or two, and the word that its index starts at.
-#[derive(Drop)]
+#[derive(Clone, Copy)]
 pub struct SetTable {
     pub rows: usize,
     pub sets: usize,

@@ -1,4 +1,6 @@
 // word_rows: sets in lent words, row i of those from base on, and the closure of the relation that a table of rows is.
+#![tactic(auto)]
+
 ghost use Rattle.std.specs.Prelude.{◌≡◌, ◌↔◌, ◌||◌, ◌&&◌, ℕ, ◌+◌, ◌*◌, ◌≤◌, ◌<◌, T, eqb, length};
 ghost use Rattle.word_fields.specs.Frame.{Kept};
 ghost use Rattle.word_sets.specs.Sets.{in_set};

@@ -1,4 +1,6 @@
 // word_sets: sets of numbers below 256 by value, four words of 64 digits each.
+#![tactic(auto)]
+
 ghost use Rattle.std.specs.Prelude.{◌≡◌, ◌↔◌, false, ◌||◌, ◌&&◌, ℕ, ◌≤◌, ◌<◌, eqb, T};
 ghost use Rattle.automata.specs.Live.{count};
 ghost use Rattle.word_sets.specs.Sets.{in_set, view, Next};
