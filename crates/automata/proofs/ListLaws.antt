@@ -190,7 +190,7 @@ pub each_snoc : {A : Type 0} (P : A → Type 0) (l : List A) (x : A) → Each P 
 each_snoc P [] x q p = (p, tt)
 each_snoc P (y ∷ l) x q p = (q.0, each_snoc P l x q.1 p)
 
-pub each-mem : {A : Type 0} (P : A → Type 0) {l : List A} {x : A} → Each P l → Memᴰ x l → P x
+pub each-mem : {A : Type 0} (P : A → Type 0) {x : A} {l : List A} → Each P l → Memᴰ x l → P x
 each-mem P h (Memᴰ.head e) = subst P (sym e) h.0
 each-mem P h (Memᴰ.tail m) = each-mem P h.1 m
 

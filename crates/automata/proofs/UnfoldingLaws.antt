@@ -154,8 +154,8 @@ module _ (b : Automaton) (L : ℕ) (fits : length (configurations b L) ≤ L) wh
 
   pub runs_from : {c : Configuration} {i j : ℕ} {w : List ℕ} → get_elem? all i ≡ some c → Run (Moves (plain_arcs b L)) i w j → (d : Configuration) × (get_elem? all j ≡ some d) × Run (Produces b) c w d
   runs_from {c} {i} p stay = (c, p, stay)
-  runs_from {i} p (silent m r) = let s = moves_from i p m in let q = runs_from s.1 r in (q.0, q.1, silent s.2 q.2)
-  runs_from {i} p (spell m r) = let s = moves_from i p m in let q = runs_from s.1 r in (q.0, q.1, spell s.2 q.2)
+  runs_from {c = c} {i = i} p (silent m r) = let s = moves_from i p m in let q = runs_from {c = s.0} s.1 r in (q.0, q.1, silent s.2 q.2)
+  runs_from {c = c} {i = i} p (spell m r) = let s = moves_from i p m in let q = runs_from {c = s.0} s.1 r in (q.0, q.1, spell s.2 q.2)
 
   pub within : (a : PlainArc) → Memᴰ a (plain_arcs b L) → a.target < length all
   unfolding plain_arcs

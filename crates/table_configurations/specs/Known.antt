@@ -1,5 +1,5 @@
 -- Known: the configurations that the walk knows and the plain arcs that it has met, said of packed configurations.
-use Rattle.std.specs.Prelude.{◌+◌, suc, zero, ℕ, eqb, List, [], ◌++◌, ◌∷◌}
+use Rattle.std.specs.Prelude.{suc, zero, ℕ, eqb, List, [], ◌++◌, ◌∷◌}
 use Rattle.std.proofs.Math.ListN.{get_elem?}
 use Rattle.std.proofs.Math.Option.{Option, none, some}
 use Rattle.automata.specs.Exploration.{add, known, number}

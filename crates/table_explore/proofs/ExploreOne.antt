@@ -5,7 +5,6 @@ use Prim.Native.Nat.{◌%◌, ◌*◌, ◌+◌, ◌/◌, ◌<◌, ◌^◌, ◌�
 use lib.Dec.{eqb}
 use lib.ListN.{drop, get_or, length}
 use mathlib.Core.List.{List, [], ◌++◌, ◌∷◌, append_assoc, append-nil}
-use mathlib.Core.Option.{none}
 use native.Mathlib.Omega.{arith}
 use Rattle.word_fields.specs.Frame.{KeptBut}
 use Rattle.automata.specs.Exploration.{add, add_all, number}

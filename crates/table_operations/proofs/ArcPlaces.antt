@@ -1,6 +1,6 @@
 -- ArcPlaces: the arcs of a file at their places, one after the other, and the list of these places in the words.
 use mathlib.Core.Path.{◌∙◌, ◌≡◌, ap₂, refl, sym}
-use Prim.Native.Nat.{◌*◌, ◌+◌, ◌-◌, ◌/◌, ◌<◌, ◌≤◌, suc, zero, ℕ}
+use Prim.Native.Nat.{◌*◌, ◌+◌, ◌/◌, ◌<◌, ◌≤◌, suc, zero, ℕ}
 use borrow.Author.Tests.{eq-eqb, ne_eqb}
 use lib.Dec.{eqb}
 use lib.ListN.{drop, get_or, length}
