@@ -7,7 +7,7 @@ use mathlib.Core.List.{List, []}
 use Prim.Native.Nat.{◌+◌, ◌<◌, ◌≤◌, ℕ}
 use native.Mathlib.Omega.{arith}
 use lib.ListN.{length}
-use Rattle.automata.specs.Automaton.{Automaton, letters}
+use Rattle.automata.specs.Automaton.{Automaton}
 use Rattle.automata.specs.Live.{PlainArc, by_letter, live}
 use Rattle.automata.specs.LiveSets.{behind, live_sets, same_set}
 use Rattle.automata.specs.Search.{met}

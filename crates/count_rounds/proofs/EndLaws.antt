@@ -8,7 +8,7 @@ use native.Mathlib.Decide.{ℕ_discrete}
 use native.Mathlib.Omega.{arith}
 use lib.ListN.{get_or, length, set}
 use lib.Seq.{get_or-set_other, get_or-set_same}
-use Rattle.automata.specs.Automaton.{Automaton, letters}
+use Rattle.automata.specs.Automaton.{Automaton}
 use Rattle.automata.specs.Lengths.{accepted_many, many_from}
 use Rattle.automata.specs.Live.{meets}
 use Rattle.automata.specs.LiveSets.{accepts_set, behind}

@@ -6,7 +6,6 @@ use native.Mathlib.Omega.{arith}
 use lib.ListN.{length, length-append, length-map}
 use Rattle.automata.specs.Automaton.{Automaton, states, letters}
 use Rattle.automata.specs.Joins.{clearing, closure, empty_move, final_states, moved_arc, moved}
-use Rattle.automata.proofs.Laws.{at}
 use Rattle.file_fields.specs.declared.Counts.{Counts}
 use Rattle.format.specs.Encoding.{arc_bytes, arcs_bytes, bytes_of, flag_byte, header_bytes, sizes}
 use Rattle.file_fields.specs.Parts.{first_arc}

@@ -8,7 +8,7 @@ use lib.ListN.{length}
 use Rattle.automata.specs.Automaton.{Automaton}
 use Rattle.automata.specs.Joins.{final_states, concatenation, empty_move, moved_arc}
 use Rattle.automata.specs.Words.{SameLetters}
-use Rattle.automata.proofs.Laws.{at, each-join, same-many}
+use Rattle.automata.proofs.Laws.{each-join, same-many}
 use Rattle.file_fields.specs.declared.Counts.{Counts}
 use Rattle.format.specs.Limits.{Fits}
 use Rattle.format.specs.Encoding.{sizes}

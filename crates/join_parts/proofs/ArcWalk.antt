@@ -8,7 +8,7 @@ use native.Mathlib.Omega.{arith}
 use lib.ListN.{drop, get_or, length, length-drop}
 use lib.Seq.{drop-drop, get_or-drop}
 use Rattle.automata.specs.Automaton.{Arc}
-use Rattle.automata.proofs.Laws.{at, each-split}
+use Rattle.automata.proofs.Laws.{each-split}
 use Rattle.file_fields.specs.declared.Counts.{Counts}
 use Rattle.file_fields.specs.declared.Reading.TheVariants.{Valid}
 use Rattle.format.specs.Limits.{Ranges}
@@ -16,7 +16,6 @@ use Rattle.format.specs.Encoding.{arc_bytes, arcs_bytes}
 use Rattle.format.specs.Decoding.{arc_of, arcs_of, letter_of, ops_of}
 use Rattle.file_fields.specs.Parts.{arc_size, arc_tests, arcs_tests, first_arc, well_op, well_ops}
 use Rattle.format.specs.Reading.{reading_of}
-use Rattle.format.specs.Placed.{whole}
 use Rattle.file_laws.proofs.Laws.{ArcFits, arc-fits, file-seen, Op-kind, valid-ranges}
 use Rattle.file_fields.proofs.Laws.{Hold, and_both, down, none_left}
 use Rattle.file_arcs.proofs.Laws.{arc-seen}

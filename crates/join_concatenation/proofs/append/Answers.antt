@@ -1,0 +1,130 @@
+-- `join_concatenation::append` meets its contract.
+use mathlib.Core.Path.{◌∙◌, ◌≡◌, ap, refl, subst, sym}
+use Prim.Native.Nat.{◌*◌, ◌+◌, ◌≤◌, ℕ}
+use native.Mathlib.Omega.{arith}
+use lib.ListN.{length}
+use Rattle.automata.specs.Automaton.{Automaton}
+use Rattle.automata.specs.Joins.{concatenation}
+use Rattle.file_fields.specs.declared.Counts.{Counts}
+use Rattle.format.specs.Decoding.{automaton_of}
+use Rattle.format.specs.Encoding.{sizes}
+use Rattle.format.specs.Limits.{Ranges}
+use Rattle.file_laws.proofs.Laws.{valid-ranges, valid-sizes}
+use Rattle.file_writing.proofs.Laws.{file-written}
+use Rattle.join_parts.specs.Joining.{join_of, written_of}
+use Rattle.join_parts.specs.OwnNumbers.{roomy}
+use Rattle.join_parts.proofs.Laws.{decided-written, few-by_own, first-room, ranges-by_own, valid-lengths, written-by_own, written-bytes}
+use Rattle.join_concatenation.proofs.ConcatenationBytes.{concatenation-length, concatenation-roomy-counts}
+use Rattle.join_concatenation.proofs.ConcatenationFits.{concatenation-fits, concatenation-ops}
+use Rattle.join_concatenation.proofs.ConcatenationPut.{concatenation-lists, concatenation-put}
+use Rattle.join_concatenation.proofs.append.Goals as goal
+use Rattle.join_concatenation.proofs.append.Goals.{After-concatenation_counts-c, After-count_finals-finals, After-decide-answer, Start}
+
+-- the automata, and their concatenation with room for the letters of both
+abbrev left : goal.Start → Automaton
+left s = automaton_of s.args.first.now
+
+abbrev right : goal.Start → Automaton
+right s = automaton_of s.args.second.now
+
+abbrev joined : goal.Start → Automaton
+joined s = roomy s.args.letters (concatenation (left s) (right s))
+
+-- the counts of it
+counts : (c : goal.After-concatenation_counts-c) →
+    let left' : Automaton = automaton_of c.args.first.now in
+    let right' : Automaton = automaton_of c.args.second.now in
+    let joined' : Automaton = roomy c.args.letters (concatenation (left') (right')) in sizes (joined') ≡ c.concatenation_counts-c.result
+counts c = let left' : Automaton = automaton_of c.args.first.now in
+    let right' : Automaton = automaton_of c.args.second.now in
+    let joined' : Automaton = roomy c.args.letters (concatenation (left') (right')) in
+    c.concatenation_counts-c.ensures (left') (right') (valid-sizes _ _ c.requires.0.first) (sym c.count_finals-finals.ensures.0) (valid-sizes _ _ c.requires.0.second)
+
+many : (c : goal.After-concatenation_counts-c) → (c.concatenation_counts-c.result.letters ≡ c.args.letters) × (c.concatenation_counts-c.result.states ≡ c.args.a.states + c.args.b.states)
+many c = let left' : Automaton = automaton_of c.args.first.now in
+    let right' : Automaton = automaton_of c.args.second.now in
+    let e = sym (counts c) ∙ concatenation-roomy-counts (left') (right') c.args.letters (first-room _ _ c.requires.1) refl in
+    (ap (λ (d : Counts). d.letters) e, omega (arith, ap (λ (d : Counts). d.states) e, (valid-lengths _ _ c.requires.0.first).1, (valid-lengths _ _ c.requires.0.second).1))
+
+-- no more final states than states
+few-finals : (c : goal.After-count_finals-finals) → c.count_finals-finals.result ≤ 256
+few-finals c = omega (arith, c.count_finals-finals.ensures.1, (valid-ranges _ _ c.requires.0.first).states)
+
+-- the counts are small
+small : (c : goal.After-concatenation_counts-c) → (c.concatenation_counts-c.result.letters ≤ 64) × (c.concatenation_counts-c.result.states ≤ 512) × (c.count_finals-finals.result ≤ 256)
+small c = let few-finals' : c.count_finals-finals.result ≤ 256 = omega (arith, c.count_finals-finals.ensures.1, (valid-ranges _ _ c.requires.0.first).states) in
+    let m = many c in
+    (omega (arith, m.0, c.requires.0.few, c.requires.1), omega (arith, m.1, (valid-ranges _ _ c.requires.0.first).states, (valid-ranges _ _ c.requires.0.second).states), few-finals')
+
+-- the answer is that for this automaton
+answered : (c : goal.After-decide-answer) →
+    let left' : Automaton = automaton_of c.args.first.now in
+    let right' : Automaton = automaton_of c.args.second.now in
+    let joined' : Automaton = roomy c.args.letters (concatenation (left') (right')) in
+    let counts' : sizes (joined') ≡ c.concatenation_counts-c.result = c.concatenation_counts-c.ensures (left') (right') (valid-sizes _ _ c.requires.0.first) (sym c.count_finals-finals.ensures.0) (valid-sizes _ _ c.requires.0.second) in
+    let many' : (c.concatenation_counts-c.result.letters ≡ c.args.letters) × (c.concatenation_counts-c.result.states ≡ c.args.a.states + c.args.b.states) = let e = sym (counts') ∙ concatenation-roomy-counts (left') (right') c.args.letters (first-room _ _ c.requires.1) refl in
+    (ap (λ (d : Counts). d.letters) e, omega (arith, ap (λ (d : Counts). d.states) e, (valid-lengths _ _ c.requires.0.first).1, (valid-lengths _ _ c.requires.0.second).1)) in c.decide-answer.result ≡ written_of (joined') (length c.args.out.now)
+unfolding roomy
+answered c = let left' : Automaton = automaton_of c.args.first.now in
+    let right' : Automaton = automaton_of c.args.second.now in
+    let joined' : Automaton = roomy c.args.letters (concatenation (left') (right')) in
+    let counts' : sizes (joined') ≡ c.concatenation_counts-c.result = c.concatenation_counts-c.ensures (left') (right') (valid-sizes _ _ c.requires.0.first) (sym c.count_finals-finals.ensures.0) (valid-sizes _ _ c.requires.0.second) in
+    let many' : (c.concatenation_counts-c.result.letters ≡ c.args.letters) × (c.concatenation_counts-c.result.states ≡ c.args.a.states + c.args.b.states) = let e = sym (counts') ∙ concatenation-roomy-counts (left') (right') c.args.letters (first-room _ _ c.requires.1) refl in
+    (ap (λ (d : Counts). d.letters) e, omega (arith, ap (λ (d : Counts). d.states) e, (valid-lengths _ _ c.requires.0.first).1, (valid-lengths _ _ c.requires.0.second).1)) in
+    let m = many' in
+    let size = 12 + c.concatenation_counts-c.result.letters + c.concatenation_counts-c.result.states + c.arcs_size.result + 6 * c.count_finals-finals.result + c.arcs_size-2.result in
+    c.decide-answer.ensures
+    ∙ decided-written (joined') (length c.args.out.now) c.concatenation_counts-c.result size (few-by_own concatenation concatenation-lists concatenation-put c.requires.0 c.requires.1 concatenation-ops) (counts')
+    (omega (
+      arith,
+      concatenation-length (left') (right') c.args.letters (first-room _ _ c.requires.1),
+      m.0,
+      m.1,
+      (valid-lengths _ _ c.requires.0.first).1,
+      (valid-lengths _ _ c.requires.0.second).1,
+      c.count_finals-finals.ensures.0,
+      c.arcs_size.ensures.0,
+      c.arcs_size-2.ensures.0,
+    ))
+
+-- and that for the concatenation over the letters of both
+answered-over : (c : goal.After-decide-answer) → c.decide-answer.result ≡ written_of (join_of concatenation c.args.first.now c.args.second.now) (length c.args.out.now)
+answered-over c = answered c ∙ written-by_own concatenation concatenation-lists concatenation-put c.requires.0 c.requires.1 (length c.args.out.now)
+
+pub concatenation_counts-c-requires : goal.concatenation_counts-c-requires
+concatenation_counts-c-requires c = (valid-ranges _ _ c.requires.0.first, few-finals c, valid-ranges _ _ c.requires.0.second, omega (arith, (valid-lengths _ _ c.requires.0.first).0, first-room _ _ c.requires.1))
+
+pub overflow_mul-moves : goal.overflow_mul-moves
+overflow_mul-moves c = omega (arith, small c)
+
+pub overflow_add-size : goal.overflow_add-size
+overflow_add-size c = omega (arith, small (goal.at.overflow_add-size c).After-concatenation_counts-c)
+
+pub overflow_add-size-2 : goal.overflow_add-size-2
+overflow_add-size-2 c = omega (arith, small (goal.at.overflow_add-size-2 c).After-concatenation_counts-c)
+
+pub overflow_add-size-3 : goal.overflow_add-size-3
+overflow_add-size-3 c = omega (arith, small (goal.at.overflow_add-size-3 c).After-concatenation_counts-c, c.arcs_size.ensures.1)
+
+pub overflow_add-size-4 : goal.overflow_add-size-4
+overflow_add-size-4 c = omega (arith, small (goal.at.overflow_add-size-4 c).After-concatenation_counts-c, c.arcs_size.ensures.1)
+
+pub overflow_add-size-5 : goal.overflow_add-size-5
+overflow_add-size-5 c = omega (arith, small (goal.at.overflow_add-size-5 c).After-concatenation_counts-c, c.arcs_size.ensures.1, c.arcs_size-2.ensures.1)
+
+pub returns-in_default : goal.returns-in_default
+returns-in_default c = record { answer = answered-over (goal.at.returns-in_default c).After-decide-answer; output = rw c.in_default.is }
+
+pub write_concatenation-requires : goal.write_concatenation-requires
+write_concatenation-requires c = let m = (many (goal.at.write_concatenation-requires c).After-concatenation_counts-c).0 in
+    let w = written-bytes (join_of concatenation c.args.first.now c.args.second.now) (length c.args.out.now) (sym (answered-over (goal.at.write_concatenation-requires c).After-decide-answer) ∙ c.in-Bytes.is) in (
+      c.requires.0.first,
+      c.requires.0.second,
+      subst (λ (n : ℕ). sizes (roomy n (concatenation (left (goal.at.write_concatenation-requires c).Start) (right (goal.at.write_concatenation-requires c).Start))) ≡ c.concatenation_counts-c.result) (sym m) (counts (goal.at.write_concatenation-requires c).After-concatenation_counts-c),
+      subst (λ (e : Counts). Ranges e) (counts (goal.at.write_concatenation-requires c).After-concatenation_counts-c) (ranges-by_own concatenation concatenation-lists concatenation-put c.requires.0 c.requires.1 concatenation-fits w.within),
+      omega (arith, m, (valid-lengths _ _ c.requires.0.first).0, first-room _ _ c.requires.1),
+      rw m (written-bytes (joined (goal.at.write_concatenation-requires c).Start) (length c.args.out.now) (sym (answered (goal.at.write_concatenation-requires c).After-decide-answer) ∙ c.in-Bytes.is)).room,
+    )
+
+pub returns : goal.returns
+returns c = let m = (many (goal.at.returns c).After-concatenation_counts-c).0 in record { answer = answered-over (goal.at.returns c).After-decide-answer; output = rw c.in-Bytes.is (file-written (rw m at c.write_concatenation.ensures)) }

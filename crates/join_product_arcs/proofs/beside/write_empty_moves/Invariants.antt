@@ -1,0 +1,17 @@
+-- `join_product_arcs::beside::write_empty_moves` meets its contract.
+use Prim.Native.Nat.{◌-◌, ◌≤◌}
+use lib.ListN.{drop}
+use Rattle.file_fields.specs.Parts.{first_arc}
+use Rattle.format.specs.Decoding.{arcs_of}
+use Rattle.format.specs.Encoding.{arcs_bytes}
+use Rattle.file_writing.proofs.Laws.{Left}
+use Rattle.join_parts.proofs.Laws.{Walk}
+use Rattle.join_product_count.specs.ProductArcs.{empty_with}
+use Rattle.join_product_arcs.specs.JointArcs.{beside_arc}
+use Rattle.join_product_arcs.proofs.beside.write_empty_moves.Given as goal
+
+abbrev pub invariant-loop-i : goal.invariant-loop-i
+invariant-loop-i l = (l.i ≤ l.c.arcs) × Walk l.c l.file (l.c.arcs - l.i) l.from × Left l.at (arcs_bytes (empty_with (beside_arc l.b) l.b.states (arcs_of l.c.arcs (drop (first_arc l.c) l.file)))) l.initial.out l.to (arcs_bytes (empty_with (beside_arc l.b) l.b.states (arcs_of (l.c.arcs - l.i) (drop l.from l.file)))) l.out
+
+abbrev pub decreases-loop-i : goal.decreases-loop-i
+decreases-loop-i l = l.c.arcs - l.i

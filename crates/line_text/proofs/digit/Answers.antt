@@ -1,0 +1,12 @@
+-- `line_text::digit` meets its contract: the test is that of the definition.
+use borrow.Author.Tests.{le-ltb, lt-ltb}
+use Rattle.line_text.specs.Digits.{digit_of}
+use Rattle.line_text.proofs.digit.Goals as goal
+
+pub returns-then-d-lt10 : goal.returns-then-d-lt10
+unfolding digit_of
+returns-then-d-lt10 c = rw (lt-ltb _ _ c.if-d-lt10.true)
+
+pub returns-else-d-lt10 : goal.returns-else-d-lt10
+unfolding digit_of
+returns-else-d-lt10 c = rw (le-ltb _ _ c.if-d-lt10.false)

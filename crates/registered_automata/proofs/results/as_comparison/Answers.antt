@@ -1,0 +1,11 @@
+-- `registered_automata::results::as_comparison` meets its contract: the struct of each kind of answer.
+use Rattle.registered_automata.proofs.results.as_comparison.Goals as goal
+
+pub returns-in-Same : goal.returns-in-Same
+returns-in-Same c = rw c.in-Same.is
+
+pub returns-in-Different : goal.returns-in-Different
+returns-in-Different c = rw c.in-Different.is
+
+pub returns-in-Refused : goal.returns-in-Refused
+returns-in-Refused c = rw c.in-Refused.is
