@@ -1,5 +1,7 @@
 // book_assembling: the file of the automaton that a text tells, in the text format of docs/TEXT.md. What was built is read before it is
 // answered: where bytes are answered, they are a valid file.
+#![tactic(auto)]
+
 ghost use Rattle.book_assembling.specs.Assembling.{AssembledTo, NoBytes};
 
 use book_draft::Draft;
@@ -14,7 +16,7 @@ mod lines;
 
 // How many bytes of the file stand at the front of the output; or the number of the text's first fault, its line and its column in
 // bytes, each from 1 on. `book_warnings::say_text_fault` has a sentence for each number.
-#[derive(Drop)]
+#[derive(Clone, Copy)]
 pub enum Assembled {
     Bytes(usize),
     Fault { what: u8, line: u64, column: u64 },

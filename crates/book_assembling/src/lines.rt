@@ -5,7 +5,7 @@ use book_draft::{Draft, add_final, add_letter, add_state, add_symbol};
 use book_tokens::{Word, byte_at, is_word, next_line, next_word};
 
 // What the words of a list are.
-#[derive(Drop)]
+#[derive(Clone, Copy)]
 pub enum Line {
     Symbols,
     Letters,

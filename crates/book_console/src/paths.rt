@@ -1,21 +1,29 @@
-// Names of files: the folder in a name, what a symbolic link leads to, and a name beside another.
-ghost use Rattle.std.specs.Prelude.{◌≤◌, length};
-ghost use Rattle.io.specs.Counts.{IsPrefixLen};
-ghost use Rattle.libc.specs.Io.{Ended};
+// Names of files: the folder in a name, what a symbolic link leads to, and a name beside another. A name is UTF-8 text: the standard
+// library opens no other.
+ghost use Rattle.std.specs.Prelude.{◌≡◌, ◌≤◌, IfOk, length};
 
+use super::console::{Console, ENAMETOOLONG};
 use super::words::same_bytes;
+use std::io::ErrorKind;
+use std::{fs, io};
 
-// A path is followed by a 0 in 4,096 bytes. One that was cut for want of room fills its buffer, and no call takes it.
-const LAST: usize = 4095;
+// The system takes names of fewer bytes than this.
+const LONGEST: usize = 4096;
 
-// As much of the path as leaves room for a 0, and then zeros. Cost: the bytes of the path.
-fn ended(path: &[u8]) -> [u8; 4096]
-    ensures { Ended result }
+// A path as text, where it is some and not too long to name a file. Cost: the bytes of the path.
+pub fn as_text(path: &[u8]) -> io::Result<&str>
+    ensures { IfOk result (λ text. text.now ≡ path.now) }
 {
-    let mut ended = io::buffer();
-    line_text::put(path, &mut ended, 0);
-    ended[LAST] = 0;
-    ended
+    if path.len() >= LONGEST {
+        return Err(io::Error::from_raw_os_error(ENAMETOOLONG));
+    }
+    match str::from_utf8(path) {
+        Ok(text) => Ok(text),
+        Err(_) => Err(io::Error::new(
+            ErrorKind::InvalidFilename,
+            "a file name has to be UTF-8 text",
+        )),
+    }
 }
 
 // How many bytes of a path name its folder: those up to its last `/`. Cost: the bytes of the path.
@@ -30,18 +38,6 @@ fn folder_length(path: &[u8]) -> usize
         i -= 1;
     }
     0
-}
-
-// Puts what a link says at the front of `text`, and answers how many bytes; none where the path is no link. Cost: one call.
-fn link_text(path: &[u8], text: &mut [u8]) -> usize
-    ensures { IsPrefixLen result text.new }
-{
-    if path.len() > LAST {
-        return io::count(0, text);
-    }
-    let named = ended(path);
-    let got = libc::readlink(&named, text);
-    io::count(got, text)
 }
 
 // Whether a path begins with this word. Cost: the bytes of the word.
@@ -70,39 +66,48 @@ fn follow(path: &mut [u8], n: usize, text: &[u8]) -> usize
     line_text::put(text, path, folder)
 }
 
-// The same of the first n bytes, where they name a link; 0 where they do not. Cost: one call, and the bytes of both.
-fn step(path: &mut [u8], n: usize) -> usize
+// The same of the first n bytes, where they name a link; 0 where they do not. What a link says has to be text too. Cost: one call, and the
+// bytes of both.
+fn step(console: &Console, path: &mut [u8], n: usize) -> io::Result<usize>
     requires { n ≤ length path.old }
-    ensures { result ≤ length path.new }
+    ensures ok { IfOk result (λ k. k ≤ length path.new) }
+    ensures kept { length path.new ≡ length path.old }
 {
     if is_open_file(&path[0..n]) {
-        return 0;
+        return Ok(0);
     }
-    let mut text = io::buffer();
-    let k = link_text(&path[0..n], &mut text);
-    if k == 0 {
-        return 0;
-    }
-    follow(path, n, &text[..k])
+    let text = match fs::read_link(&console.rt, as_text(&path[0..n])?) {
+        Ok(text) => text,
+        Err(error) => {
+            // The system refuses a name that is no link. What is no text, and what has no memory, only the library does.
+            return match error.raw_os_error() {
+                Some(_) => Ok(0),
+                None => Err(error),
+            };
+        }
+    };
+    Ok(follow(path, n, text.as_str().as_bytes()))
 }
 
 // Puts the path that the links of this name lead to in the place of the first n bytes, and answers how long it is. Links that lead from one
-// to the next more than 40 times are left, and no call takes them. Cost: that of `step` for each link.
-pub fn resolve(path: &mut [u8], n: usize) -> usize
+// to the next more than 40 times are left, and no call takes them. Where a link cannot be read, as one that is no text, the error is
+// answered, and the path holds the name of that link. Cost: that of `step` for each link.
+pub fn resolve(console: &Console, path: &mut [u8], n: usize) -> io::Result<usize>
     requires { n ≤ length path.old }
-    ensures { result ≤ length path.new }
+    ensures ok { IfOk result (λ k. k ≤ length path.new) }
+    ensures kept { length path.new ≡ length path.old }
 {
     let mut length = n;
     let mut links: usize = 0;
     while links < 40 {
-        let next = step(path, length);
+        let next = step(console, path, length)?;
         if next == 0 {
             break;
         }
         length = next;
         links += 1;
     }
-    length
+    Ok(length)
 }
 
 // Puts a name beside the path into `name`, in the same folder, and answers how long it is: `.mlb-` and how many others were tried.

@@ -4,7 +4,7 @@ use book_tokens::{Word, byte_at};
 use file_fields::letters::key_of;
 
 // The byte that a word tells as a letter; nothing where it tells none.
-#[derive(Drop)]
+#[derive(Clone, Copy)]
 pub enum Told {
     Byte(u8),
     Nothing,

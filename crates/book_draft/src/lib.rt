@@ -1,5 +1,7 @@
 // book_draft: what a text has declared so far: registers, symbols, letters, states and which of them are final. Names are kept as
 // the places where the text has them. Each declaration answers the draft with it, or with its fault.
+#![tactic(auto)]
+
 use book_tokens::Word;
 
 pub mod letters;
@@ -9,7 +11,7 @@ pub mod words;
 // How far the reading of a text came. `fault` is the number of its fault, 0 where there is none, and `place` where it stands, in bytes
 // from the text's start; without a fault it is that of the line. `registers` is 0 where no line told it. `operations` are those of
 // the last arc so far, and `end` is the place behind the arcs' bytes.
-#[derive(Drop)]
+#[derive(Clone, Copy)]
 pub struct Draft {
     pub fault: u8,
     pub place: usize,

@@ -4,58 +4,58 @@ ghost use Rattle.std.specs.Prelude.{◌≤◌};
 
 use super::arcs::{arc_end, is_plain, say_byte, say_operations};
 use super::parts::say_letter;
-use book_console::words::{say, say_number};
+use book_console::console::Console;
+use book_console::words::{say, say_hex, say_number};
 use book_tokens::{byte_at, same_bytes};
 
 // The letters of an edge: a bit for each letter number, and whether it has the empty move.
-#[derive(Drop)]
+#[derive(Clone, Copy)]
 struct Gathered {
     letters: u64,
     is_empty: bool,
 }
 
 // What stands in front of the nodes. The margins are narrow, so that many states fit a page. Cost: the text.
-pub fn begin_graph() {
+pub fn begin_graph(console: &Console) {
     say(
+        console,
         1,
         b"digraph automaton {\n  nodesep=0.15;\n  ranksep=0.3;\n  node [shape=circle, fontsize=10, margin=0.02, width=0.3, height=0.3];\n  edge [fontsize=9, arrowsize=0.6];\n  start [shape=point, width=0.1, height=0.1];\n  start -> 0;\n",
     );
 }
 
 // The direction of a graph: few states stand beside one another, many below one another, where labels take less room. Cost: the text.
-pub fn direct_graph(states: usize) {
+pub fn direct_graph(console: &Console, states: usize) {
     if states < 50 {
-        say(1, b"  rankdir=LR;\n");
+        say(console, 1, b"  rankdir=LR;\n");
     }
 }
 
 // The node of a state: a double circle where it is final. Cost: constant.
-fn draw_state(state: usize, flag: u8) {
-    say(1, b"  ");
-    say_number(1, state as u64);
+fn draw_state(console: &Console, state: usize, flag: u8) {
+    say(console, 1, b"  ");
+    say_number(console, 1, state as u64);
     if flag == 1 {
-        say(1, b" [shape=doublecircle]");
+        say(console, 1, b" [shape=doublecircle]");
     }
-    say(1, b";\n");
+    say(console, 1, b";\n");
 }
 
 // The nodes of the states with these flags, from state 0 on. Cost: the flags.
-pub fn draw_states(flags: &[u8]) {
-    let mut i: usize = 0;
-    while i < flags.len() {
-        draw_state(i, flags[i]);
-        i += 1;
+pub fn draw_states(console: &Console, flags: &[u8]) {
+    for (state, flag) in flags.iter().enumerate() {
+        draw_state(console, state, *flag);
     }
 }
 
 // A letter in a label, where a comma, a hyphen, a quote and a backslash have a meaning: those by their bytes. Cost: constant.
-fn label_letter(letter: u8) {
+fn label_letter(console: &Console, letter: u8) {
     if letter == b',' || letter == b'-' || letter == b'"' || letter == b'\\' {
-        say(1, b"0x");
-        io::print_hex(1, letter as u64, 2);
+        say(console, 1, b"0x");
+        say_hex(console, letter);
         return;
     }
-    say_letter(letter);
+    say_letter(console, letter);
 }
 
 // Is the letter with this number among these? Cost: constant.
@@ -104,13 +104,13 @@ fn run_begin(letters: u64, from: usize, count: usize) -> usize
 }
 
 // The letter with this number. Cost: constant.
-fn label_number(list: &[u8], i: usize) {
-    label_letter(byte_at(list, i));
+fn label_number(console: &Console, list: &[u8], i: usize) {
+    label_letter(console, byte_at(list, i));
 }
 
 // A run of letters: one by itself, two with a comma, more as their first and their last. Cost: constant.
-fn label_run(list: &[u8], from: usize, to: usize) {
-    label_number(list, from);
+fn label_run(console: &Console, list: &[u8], from: usize, to: usize) {
+    label_number(console, list, from);
     if to <= from {
         return;
     }
@@ -118,32 +118,32 @@ fn label_run(list: &[u8], from: usize, to: usize) {
         return;
     }
     if to - from == 2 {
-        say(1, b",");
+        say(console, 1, b",");
     } else {
-        say(1, b"-");
+        say(console, 1, b"-");
     }
-    label_number(list, to - 1);
+    label_number(console, list, to - 1);
 }
 
 // A comma where something stands in front. Cost: constant.
-fn say_comma(is_behind: bool) {
+fn say_comma(console: &Console, is_behind: bool) {
     if is_behind {
-        say(1, b",");
+        say(console, 1, b",");
     }
 }
 
 // The letters of an edge, run by run. Cost: the letters.
-fn label_letters(list: &[u8], g: Gathered) {
+fn label_letters(console: &Console, list: &[u8], g: Gathered) {
     let mut is_behind = g.is_empty;
     let mut i: usize = run_begin(g.letters, 0, list.len());
     while i < list.len() {
-        say_comma(is_behind);
+        say_comma(console, is_behind);
         is_behind = true;
         let end = run_end(g.letters, i, list.len());
         if end <= i {
             return;
         }
-        label_run(list, i, end);
+        label_run(console, list, i, end);
         i = run_begin(g.letters, end, list.len());
     }
 }
@@ -218,19 +218,26 @@ fn is_drawn(on_edge: bool, arc: &[u8], s: &[u8]) -> bool {
 }
 
 // A line of a label: letters, and behind a stroke operations. Cost: the line.
-fn say_line(list: &[u8], arc: &[u8], g: Gathered) {
+fn say_line(console: &Console, list: &[u8], arc: &[u8], g: Gathered) {
     if g.is_empty {
-        say(1, b"empty");
+        say(console, 1, b"empty");
     }
-    label_letters(list, g);
+    label_letters(console, list, g);
     if !is_plain(arc) {
-        say(1, b" /");
+        say(console, 1, b" /");
     }
-    say_operations(b":=", arc);
+    say_operations(console, b":=", arc);
 }
 
 // The line of an arc, where it is on the edge of the other and no arc in front is on its line. Cost: three passes over s.
-fn say_line_of(list: &[u8], other: &[u8], arc: &[u8], in_front: &[u8], s: &[u8]) {
+fn say_line_of(
+    console: &Console,
+    list: &[u8],
+    other: &[u8],
+    arc: &[u8],
+    in_front: &[u8],
+    s: &[u8],
+) {
     if !has_same_ends(other, arc) {
         return;
     }
@@ -238,48 +245,48 @@ fn say_line_of(list: &[u8], other: &[u8], arc: &[u8], in_front: &[u8], s: &[u8])
         return;
     }
     if is_drawn(true, arc, in_front) {
-        say(1, b"\\n");
+        say(console, 1, b"\\n");
     }
-    say_line(list, arc, gather(arc, s));
+    say_line(console, list, arc, gather(arc, s));
 }
 
 // The lines of an edge. Cost: for each arc on the edge a pass over s.
-fn say_lines(list: &[u8], arc: &[u8], s: &[u8]) {
+fn say_lines(console: &Console, list: &[u8], arc: &[u8], s: &[u8]) {
     let mut at: usize = 0;
     while at < s.len() {
         let end = arc_end(s, at);
         if end <= at {
             return;
         }
-        say_line_of(list, arc, &s[at..end], &s[0..at], s);
+        say_line_of(console, list, arc, &s[at..end], &s[0..at], s);
         at = end;
     }
 }
 
 // The edge of an arc and of all arcs of s between the same states, where none of these stands in front. Cost: that of its lines.
-fn draw_edge(list: &[u8], arc: &[u8], in_front: &[u8], s: &[u8]) {
+fn draw_edge(console: &Console, list: &[u8], arc: &[u8], in_front: &[u8], s: &[u8]) {
     if is_drawn(true, arc, in_front) {
         return;
     }
-    say(1, b"  ");
-    say_byte(byte_at(arc, 0));
-    say(1, b" -> ");
-    say_byte(byte_at(arc, 2));
-    say(1, b" [label=\"");
-    say_lines(list, arc, s);
-    say(1, b"\"];\n");
+    say(console, 1, b"  ");
+    say_byte(console, byte_at(arc, 0));
+    say(console, 1, b" -> ");
+    say_byte(console, byte_at(arc, 2));
+    say(console, 1, b" [label=\"");
+    say_lines(console, list, arc, s);
+    say(console, 1, b"\"];\n");
 }
 
 // The edges of the arcs from the front of s on that stand there whole, each where the first of its arcs stands.
 // Cost: for each arc a few passes over s.
-pub fn draw_arcs(list: &[u8], s: &[u8]) {
+pub fn draw_arcs(console: &Console, list: &[u8], s: &[u8]) {
     let mut at: usize = 0;
     while at < s.len() {
         let end = arc_end(s, at);
         if end <= at {
             return;
         }
-        draw_edge(list, &s[at..end], &s[0..at], s);
+        draw_edge(console, list, &s[at..end], &s[0..at], s);
         at = end;
     }
 }

@@ -1,9 +1,11 @@
 // book_numbers: the number that a text tells in decimal digits, as an argument of a program does.
+#![tactic(auto)]
+
 ghost use Rattle.std.specs.Prelude.{◌≡◌, ◌+◌, ◌*◌, ◌<◌, min};
 ghost use Rattle.book_numbers.specs.Numbers.{is_digit, number_in};
 
 // The number that a text tells; nothing where the text is none.
-#[derive(Drop)]
+#[derive(Clone, Copy)]
 pub enum Number {
     Told(u64),
     Nothing,

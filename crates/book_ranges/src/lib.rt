@@ -1,5 +1,7 @@
 // book_ranges: a word that is typed by the letters themselves, with `[x-y]` where a letter is only known to lie between two, as the bytes
 // that tell its places to `ranges::accepts_ranges`: two for each, the lowest and the highest letter number.
+#![tactic(auto)]
+
 ghost use Rattle.std.specs.Prelude.{◌≡◌, ◌*◌, ◌<◌, ◌≤◌, drop, length};
 ghost use Rattle.automata.specs.Counting.{Apart};
 ghost use Rattle.automata.specs.Letters.{keys};
@@ -9,7 +11,7 @@ use file_fields::letters::{Letter, letter_in};
 
 // What a text tells: a word, and so many bytes tell its places; no word, since a byte comes first that is no letter; or nothing, since a
 // `[` comes first that begins no range of letters, at this byte of the text, counted from 1.
-#[derive(Drop)]
+#[derive(Clone, Copy)]
 pub enum Typed {
     Places(usize),
     NoLetter,
@@ -18,7 +20,7 @@ pub enum Typed {
 
 // What stands at the front of a text: a place, with the lowest and the highest number of its letter and how many bytes of the text it takes;
 // a byte that is no letter; or a `[` that begins no range of letters.
-#[derive(Drop)]
+#[derive(Clone, Copy)]
 enum Place {
     Letters { low: u8, high: u8, taken: usize },
     Foreign,

@@ -1,17 +1,19 @@
 // book_tokens: the words of a text, one line after the other, as docs/TEXT.md has them; the line and the column of a place.
 // A place is a number of bytes from the text's start. Every function takes any place: behind the text there is nothing.
+#![tactic(auto)]
+
 ghost use Rattle.std.specs.Prelude.{◌≡◌, ◌+◌, ◌≤◌, ◌<◌, min, length};
 ghost use Rattle.book_tokens.specs.Words.{WordFrom};
 
 // A word stands from one place to another. Where both are one place, there is none: the line ends there, or a comment begins.
-#[derive(Drop)]
+#[derive(Clone, Copy)]
 pub struct Word {
     pub from: usize,
     pub to: usize,
 }
 
 // The line and the column of a byte, each from 1 on.
-#[derive(Drop)]
+#[derive(Clone, Copy)]
 pub struct Place {
     pub line: u64,
     pub column: u64,

@@ -1,6 +1,9 @@
 // book_warnings: what a program tells of a text that it assembles: the sentence of its fault, and the states that no chain of arcs leads to.
+#![tactic(auto)]
+
 ghost use Rattle.std.specs.Prelude.{◌<◌};
 
+use book_console::console::Console;
 use book_console::words::{say, say_argument, say_number};
 use book_draft::names::state_name;
 use book_draft::words::{is_reached, set_reached};
@@ -12,13 +15,13 @@ mod sentences;
 pub use sentences::say_text_fault;
 
 // The file that an argument names, a line and a column, as `FILE:LINE:COLUMN: `. Cost: the text.
-pub fn say_place(file: i32, argument: usize, line: u64, column: u64) {
-    say_argument(file, argument);
-    say(file, b":");
-    say_number(file, line);
-    say(file, b":");
-    say_number(file, column);
-    say(file, b": ");
+pub fn say_place(console: &Console, file: i32, argument: usize, line: u64, column: u64) {
+    say_argument(console, file, argument);
+    say(console, file, b":");
+    say_number(console, file, line);
+    say(console, file, b":");
+    say_number(console, file, column);
+    say(console, file, b": ");
 }
 
 // Marks state 0 as reached, and no other. Cost: the states.
@@ -67,7 +70,7 @@ fn reach(words: &mut [usize], s: &[u8], states: usize) {
 }
 
 // The name of a state as the text has it. Cost: the name.
-fn say_name(file: i32, text: &[u8], word: Word) {
+fn say_name(console: &Console, file: i32, text: &[u8], word: Word) {
     let from = word.from;
     let to = word.to;
     if to < from {
@@ -76,36 +79,51 @@ fn say_name(file: i32, text: &[u8], word: Word) {
     if text.len() < to {
         return;
     }
-    say(file, &text[from..to]);
+    say(console, file, &text[from..to]);
 }
 
 // That no chain of arcs leads to a state, at the place where it is declared; nothing of a state of a path's own, which has no name.
 // Cost: one pass over the text up to there.
-fn warn_of(file: i32, argument: usize, text: &[u8], word: Word) {
+fn warn_of(console: &Console, file: i32, argument: usize, text: &[u8], word: Word) {
     if word.to <= word.from {
         return;
     }
     let place = place_in(text, word.from);
-    say_place(file, argument, place.line, place.column);
+    say_place(console, file, argument, place.line, place.column);
     say(
+        console,
         file,
         b"warning: no chain of arcs leads from the first state to the state ",
     );
-    say_name(file, text, word);
-    say(file, b"\n");
+    say_name(console, file, text, word);
+    say(console, file, b"\n");
 }
 
 // The same where it was not reached. Cost: that of the warning.
-fn warn_unless_reached(file: i32, argument: usize, text: &[u8], words: &[usize], state: usize) {
+fn warn_unless_reached(
+    console: &Console,
+    file: i32,
+    argument: usize,
+    text: &[u8],
+    words: &[usize],
+    state: usize,
+) {
     if !is_reached(words, state) {
-        warn_of(file, argument, text, state_name(words, state));
+        warn_of(console, file, argument, text, state_name(words, state));
     }
 }
 
 // Warns of the states that were not reached. Cost: that of the warnings.
-fn warn_of_each(file: i32, argument: usize, text: &[u8], words: &[usize], states: usize) {
+fn warn_of_each(
+    console: &Console,
+    file: i32,
+    argument: usize,
+    text: &[u8],
+    words: &[usize],
+    states: usize,
+) {
     for i in 0..states {
-        warn_unless_reached(file, argument, text, words, i);
+        warn_unless_reached(console, file, argument, text, words, i);
     }
 }
 
@@ -124,12 +142,19 @@ fn arcs_at(bytes: &[u8]) -> usize {
 // Warns of each state that no chain of arcs leads to from the initial one, whatever the operations. The words are those lent to
 // `assemble`, and `bytes` is the file that it built.
 // Cost: for each state a pass over the arcs, for each warning one over the text.
-pub fn warn_unreached(file: i32, argument: usize, text: &[u8], words: &mut [usize], bytes: &[u8]) {
+pub fn warn_unreached(
+    console: &Console,
+    file: i32,
+    argument: usize,
+    text: &[u8],
+    words: &mut [usize],
+    bytes: &[u8],
+) {
     let at = arcs_at(bytes);
     if bytes.len() < at {
         return;
     }
     let states = states_told(bytes);
     reach(words, &bytes[at..], states);
-    warn_of_each(file, argument, text, words, states);
+    warn_of_each(console, file, argument, text, words, states);
 }

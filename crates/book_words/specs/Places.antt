@@ -1,6 +1,6 @@
 -- Places: where the words of the input stand in the buffer that it is read to.
 use Rattle.std.specs.Prelude.{◌≡◌, List, ℕ, ◌+◌, ◌-◌, ◌≤◌, ◌<◌, get_or}
-use Rattle.io.specs.Counts.{IsPrefixLen}
+use Rattle.book_console.specs.Inputs.{IsPrefixLen}
 use Rattle.book_words.specs.declared.Got.{Got}
 use Rattle.book_words.specs.declared.Got.TheVariants.{Bytes, Nothing}
 use Rattle.book_words.specs.declared.Input.{Input}
@@ -23,4 +23,4 @@ MovedFront from to old new = (j : ℕ) → j < to - from → get_or new j 0 ≡ 
 -- so many bytes were read to the front of the buffer
 abbrev pub GotTo : List ℕ → Got → Type 0
 GotTo buffer (Bytes n) = IsPrefixLen n buffer
-GotTo buffer Nothing = Unit {0}
+GotTo buffer (Nothing _) = Unit {0}

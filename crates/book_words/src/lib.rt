@@ -2,18 +2,23 @@
 // The bytes of the input stand in a buffer, and the places in it are a struct that goes from call to call; so it is with the output. What
 // waits in the output is written when it has no room for a further line, before the input is waited for, and before anything is told on
 // standard error.
+#![tactic(auto)]
+
 ghost use Rattle.std.specs.Prelude.{◌≡◌, ◌≤◌, ◌<◌, length};
 ghost use Rattle.book_words.specs.Places.{FirstFeed, GotTo, MovedFront, Standing};
 
 use book_console::calls::FAILED;
-use book_console::words::{say, say_number, write_out};
+use book_console::console::Console;
+use book_console::words::{fail, say, say_number, write_out};
+use std::io;
+use std::io::Read;
 
 // The longest line of an answer: a word, and what stands in front of it and behind it.
 pub const LONGEST_LINE: usize = 65600;
 
 // Where the bytes of the input stand in their buffer. The word that is not judged yet begins at `from`, has no line feed in front of
 // `seen`, and the bytes end at `to`. Lines count from 1. The rest of a word that is too long is skipped, up to its line feed.
-#[derive(Drop)]
+#[derive(Clone, Copy)]
 pub struct Input {
     pub from: usize,
     pub seen: usize,
@@ -24,7 +29,7 @@ pub struct Input {
 }
 
 // So many bytes of the output wait to be written; the status so far; whether the run is over.
-#[derive(Drop)]
+#[derive(Clone, Copy)]
 pub struct Output {
     pub waiting: usize,
     pub status: u8,
@@ -32,17 +37,17 @@ pub struct Output {
 }
 
 // Both.
-#[derive(Drop)]
+#[derive(Clone, Copy)]
 pub struct Session {
     pub input: Input,
     pub output: Output,
 }
 
-// So many bytes were read; or it failed, and errno says why.
-#[derive(Drop)]
+// So many bytes were read; or it failed, and the error says why.
+#[derive(Clone, Copy)]
 enum Got {
     Bytes(usize),
-    Nothing,
+    Nothing(io::Error),
 }
 
 // A run in front of its first word. Cost: constant.
@@ -110,12 +115,12 @@ pub fn failed() -> Output {
 }
 
 // Writes what waits; where that fails it is told, and the run is over. Cost: one pass over what waits.
-pub fn flush(out: &[u8], output: Output) -> Output {
+pub fn flush(console: &Console, out: &[u8], output: Output) -> Output {
     let n = output.waiting;
     if n > out.len() {
         return failed();
     }
-    if !write_out(&out[0..n]) {
+    if !write_out(console, &out[0..n]) {
         return failed();
     }
     Output {
@@ -126,12 +131,12 @@ pub fn flush(out: &[u8], output: Output) -> Output {
 }
 
 // Makes room for a further line. Cost: constant, or that of `flush`.
-pub fn make_room(out: &[u8], output: Output) -> Output {
+pub fn make_room(console: &Console, out: &[u8], output: Output) -> Output {
     let n = output.waiting;
     if n <= out.len() && out.len() - n >= LONGEST_LINE {
         return output;
     }
-    flush(out, output)
+    flush(console, out, output)
 }
 
 // The place of the first line feed from a place on, or the end where there is none. Cost: the bytes up to it.
@@ -198,21 +203,24 @@ fn move_to_front(text: &mut [u8], from: usize, to: usize)
 }
 
 // Reads what there is of standard input, as far as there is room. Cost: one read.
-fn read_some(buffer: &mut [u8]) -> Got
+fn read_some(console: &Console, buffer: &mut [u8]) -> Got
     ensures { GotTo buffer.new result }
 {
-    let got = libc::read(0, buffer);
-    if got < 0 {
-        return Got::Nothing;
+    match console.rt.stdin().read(buffer) {
+        Ok(n) => Got::Bytes(n),
+        Err(error) => Got::Nothing(error),
     }
-    Got::Bytes(io::count(got, buffer))
 }
 
 // Tells that a word has more bytes than there is room for. Cost: the text.
-fn tell_long(line: u64) {
-    say(2, b"line ");
-    say_number(2, line);
-    say(2, b": a word of more than 65535 bytes is not judged\n");
+fn tell_long(console: &Console, line: u64) {
+    say(console, 2, b"line ");
+    say_number(console, 2, line);
+    say(
+        console,
+        2,
+        b": a word of more than 65535 bytes is not judged\n",
+    );
 }
 
 // So many bytes stand at the front, and none of them is a line feed. Cost: constant.
@@ -231,10 +239,10 @@ fn unread(input: Input, to: usize, seen: usize, is_ended: bool) -> Input
 }
 
 // The word fills the buffer: that is told, and its rest is skipped. Cost: the text.
-fn skip(input: Input, output: Output) -> Session
+fn skip(console: &Console, input: Input, output: Output) -> Session
     ensures { Standing 0 result.input }
 {
-    tell_long(input.line);
+    tell_long(console, input.line);
     let skipping = Input {
         from: 0,
         seen: 0,
@@ -263,19 +271,25 @@ fn end(text: &mut [u8], n: usize, input: Input, output: Output) -> Session
 }
 
 // Reads more of the input behind the first n bytes of the buffer. Cost: one read.
-fn read_behind(text: &mut [u8], n: usize, input: Input, output: Output) -> Session
+fn read_behind(
+    console: &Console,
+    text: &mut [u8],
+    n: usize,
+    input: Input,
+    output: Output,
+) -> Session
     requires { n < length text.old }
     ensures { Standing (length text.new) result.input }
 {
-    match read_some(&mut text[n..]) {
+    match read_some(console, &mut text[n..]) {
         Got::Bytes(k) => {
             if k == 0 {
                 return end(text, n, input, output);
             }
             standing_at(unread(input, n + k, n, false), output)
         }
-        Got::Nothing => {
-            os::fail(b"standard input");
+        Got::Nothing(error) => {
+            fail(console, b"standard input", &error);
             standing_at(unread(input, n, n, true), failed())
         }
     }
@@ -294,7 +308,7 @@ fn first_needed(input: Input) -> usize
 }
 
 // Reads more of the input, behind the word that stands in the buffer without its line feed. Cost: one pass over that word, and one read.
-fn read_more(text: &mut [u8], input: Input, output: Output) -> Session
+fn read_more(console: &Console, text: &mut [u8], input: Input, output: Output) -> Session
     requires { Standing (length text.old) input }
     ensures { Standing (length text.new) result.input }
 {
@@ -303,20 +317,26 @@ fn read_more(text: &mut [u8], input: Input, output: Output) -> Session
     move_to_front(text, from, to);
     let n = to - from;
     if n >= text.len() {
-        return skip(input, output);
+        return skip(console, input, output);
     }
-    read_behind(text, n, input, output)
+    read_behind(console, text, n, input, output)
 }
 
 // No line feed stands in the bytes that were read: what waits in the output is written, and more of the input is read, or the run is over.
 // Cost: that of `flush`, and one read.
-pub fn refill(text: &mut [u8], out: &[u8], input: Input, output: Output) -> Session
+pub fn refill(
+    console: &Console,
+    text: &mut [u8],
+    out: &[u8],
+    input: Input,
+    output: Output,
+) -> Session
     requires { Standing (length text.old) input }
     ensures { Standing (length text.new) result.input }
 {
-    let written = flush(out, output);
+    let written = flush(console, out, output);
     if input.is_ended || written.is_over {
         return standing_at(input, over(written));
     }
-    read_more(text, input, written)
+    read_more(console, text, input, written)
 }

@@ -1,6 +1,9 @@
 // bookassemble TEXT RESULT: writes the file of the automaton that a text tells. Its body is run_assemble's.
+#![tactic(auto)]
 
-// The status is lost: a program has none to tell it by. Cost: that of `run_assemble::run`.
-fn main() {
-    run_assemble::run(0);
+use book_console::console::Console;
+
+// The status is not told: the front `mlb` tells it. Cost: that of `run_assemble::run`.
+fn main(rt: HostRuntime) {
+    run_assemble::run(&Console::new(rt), 0);
 }

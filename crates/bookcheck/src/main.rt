@@ -1,6 +1,9 @@
 // bookcheck FILE: which words from standard input the automaton of the file accepts. Its body is run_check's.
+#![tactic(auto)]
 
-// The status is lost: a program has none to tell it by. Cost: that of `run_check::run`.
-fn main() {
-    run_check::run(0);
+use book_console::console::Console;
+
+// The status is not told: the front `mlb` tells it. Cost: that of `run_check::run`.
+fn main(rt: HostRuntime) {
+    run_check::run(&Console::new(rt), 0);
 }

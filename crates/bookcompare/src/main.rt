@@ -1,7 +1,10 @@
 // bookcompare [FIRST SECOND]: compares two files, first.mlb and second.mlb where none is named, and writes the line of the answer. Its body is
 // run_compare's.
+#![tactic(auto)]
 
-// The status is lost: a program has none to tell it by. Cost: that of `run_compare::run`.
-fn main() {
-    run_compare::run(0);
+use book_console::console::Console;
+
+// The status is not told: the front `mlb` tells it. Cost: that of `run_compare::run`.
+fn main(rt: HostRuntime) {
+    run_compare::run(&Console::new(rt), 0);
 }

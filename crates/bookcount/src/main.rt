@@ -1,6 +1,9 @@
 // bookcount FILE LENGTH: how many words of LENGTH letters the automaton of the file accepts, and how many it does not. Its body is run_count's.
+#![tactic(auto)]
 
-// The status is lost: a program has none to tell it by. Cost: that of `run_count::run`.
-fn main() {
-    run_count::run(0);
+use book_console::console::Console;
+
+// The status is not told: the front `mlb` tells it. Cost: that of `run_count::run`.
+fn main(rt: HostRuntime) {
+    run_count::run(&Console::new(rt), 0);
 }

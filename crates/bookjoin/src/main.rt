@@ -1,7 +1,10 @@
 // bookjoin union|concat|intersect FIRST SECOND RESULT, bookjoin closure FIRST RESULT: joins files, and writes the joined file. Its body is
 // run_join's.
+#![tactic(auto)]
 
-// The status is lost: a program has none to tell it by. Cost: that of `run_join::run`.
-fn main() {
-    run_join::run(0);
+use book_console::console::Console;
+
+// The status is not told: the front `mlb` tells it. Cost: that of `run_join::run`.
+fn main(rt: HostRuntime) {
+    run_join::run(&Console::new(rt), 0);
 }

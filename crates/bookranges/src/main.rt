@@ -1,7 +1,10 @@
 // bookranges FILE: which words from standard input, of which some letters are not sure, the automaton of the file accepts in every filling, in
 // some or in none. Its body is run_ranges's.
+#![tactic(auto)]
 
-// The status is lost: a program has none to tell it by. Cost: that of `run_ranges::run`.
-fn main() {
-    run_ranges::run(0);
+use book_console::console::Console;
+
+// The status is not told: the front `mlb` tells it. Cost: that of `run_ranges::run`.
+fn main(rt: HostRuntime) {
+    run_ranges::run(&Console::new(rt), 0);
 }

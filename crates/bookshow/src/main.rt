@@ -1,6 +1,9 @@
 // bookshow [--dot] FILE: a file as a text or as a graph, with the place of its fault. Its body is run_show's.
+#![tactic(auto)]
 
-// The status is lost: a program has none to tell it by. Cost: that of `run_show::run`.
-fn main() {
-    run_show::run(0);
+use book_console::console::Console;
+
+// The status is not told: the front `mlb` tells it. Cost: that of `run_show::run`.
+fn main(rt: HostRuntime) {
+    run_show::run(&Console::new(rt), 0);
 }

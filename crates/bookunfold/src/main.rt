@@ -1,6 +1,9 @@
 // bookunfold FILE RESULT: writes the automaton without registers that accepts the same words. Its body is run_unfold's.
+#![tactic(auto)]
 
-// The status is lost: a program has none to tell it by. Cost: that of `run_unfold::run`.
-fn main() {
-    run_unfold::run(0);
+use book_console::console::Console;
+
+// The status is not told: the front `mlb` tells it. Cost: that of `run_unfold::run`.
+fn main(rt: HostRuntime) {
+    run_unfold::run(&Console::new(rt), 0);
 }

@@ -3,13 +3,18 @@
 // length of the second bytes, number one and number two, and then the first bytes and the second bytes.
 // The run ends where the input ends, also inside a record, at a record that asks for more than the buffers hold, and at
 // an operation that is none of the ten, which the line `unknown` tells.
+#![tactic(auto)]
+
 ghost use Rattle.std.specs.Prelude.{◌<◌, ◌≤◌, length};
 
+use book_console::console::Console;
+use book_console::files::read_full;
+use book_console::words::write_out;
 use file_writing::Written;
 
 // What a record begins with: its operation, the lengths of its first and its second bytes, how many working words and how many bytes of
 // output or of a word it lends, and how many letters the words have that are to be counted.
-#[derive(Drop)]
+#[derive(Clone, Copy)]
 struct Head {
     operation: u8,
     first: usize,
@@ -20,7 +25,7 @@ struct Head {
 }
 
 // The next record, up to its bytes; or that the input ends before or inside that.
-#[derive(Drop)]
+#[derive(Clone, Copy)]
 enum Record {
     Begins(Head),
     Ends,
@@ -61,9 +66,9 @@ fn bytes_lent(operation: u8, one: usize, two: usize) -> usize {
 }
 
 // Reads what the next record begins with. Cost: one read of 17 bytes.
-fn next_record() -> Record {
+fn next_record(console: &Console) -> Record {
     let mut head = [0u8; 17];
-    if io::read_full(0, &mut head) < 17 {
+    if read_full(&mut console.rt.stdin(), &mut head) < 17 {
         return Record::Ends;
     }
     let operation = head[0];
@@ -82,11 +87,11 @@ fn next_record() -> Record {
 }
 
 // Reads n bytes to the front of `buffer`, and answers whether they were there and had room. Cost: one pass over them.
-fn fill(buffer: &mut [u8], n: usize) -> bool {
+fn fill(console: &Console, buffer: &mut [u8], n: usize) -> bool {
     if buffer.len() < n {
         return false;
     }
-    io::read_full(0, &mut buffer[0..n]) == n
+    read_full(&mut console.rt.stdin(), &mut buffer[0..n]) == n
 }
 
 // Joins or unfolds, on exactly what a record lends; where the operation is neither, that is a refusal with no number.
@@ -135,21 +140,18 @@ fn answer(
 }
 
 // Prints a line, where there is one, and answers whether the run goes on. Cost: the line.
-fn print(line: &[u8]) -> bool {
+fn print(console: &Console, line: &[u8]) -> bool {
     if line.len() == 0 {
-        io::write_all(1, b"unknown\n");
+        let _ = console.write(1, b"unknown\n");
         return false;
     }
-    if !io::write_all(1, line) {
-        os::fail(b"standard output");
-        return false;
-    }
-    true
+    write_out(console, line)
 }
 
 // Answers a record on exactly what it lends of the buffers, and prints the line. False ends the run: where a buffer is shorter, there is
 // no such operation, or the line cannot be written. Cost: that of the call, and the line.
 fn lend(
+    console: &Console,
     head: Head,
     first: &[u8],
     second: &[u8],
@@ -173,40 +175,51 @@ fn lend(
         &mut out[0..bytes],
         line,
     );
-    print(&line[0..n])
+    print(console, &line[0..n])
 }
 
 // Reads one record and answers it; false ends the run. The buffers are lent as arrays: an array's length asks no proof.
 // Cost: one pass over the record, and that of `lend`.
 fn turn(
+    console: &Console,
     first: &mut [u8; 41293],
     second: &mut [u8; 41293],
     work: &mut [u64; 8300],
     out: &mut [u8; 60000],
     line: &mut [u8; 120016],
 ) -> bool {
-    let Record::Begins(head) = next_record() else {
+    let Record::Begins(head) = next_record(console) else {
         return false;
     };
-    if !fill(first, head.first) {
+    if !fill(console, first, head.first) {
         return false;
     }
-    if !fill(second, head.second) {
+    if !fill(console, second, head.second) {
         return false;
     }
-    lend(head, first, second, work, out, line)
+    lend(console, head, first, second, work, out, line)
 }
 
 // The buffers are as long as the longest file, word, working memory and output of the cases; `line` holds that output
 // in hexadecimal. Cost: that of `turn` for each record.
-fn main() {
+fn main(rt: HostRuntime) {
+    let console = Console::new(rt);
     let mut first = [0u8; 41293];
     let mut second = [0u8; 41293];
     let mut work = [0u64; 8300];
     let mut out = [0u8; 60000];
     let mut line = [0u8; 120016];
     let mut turns = u64::MAX;
-    while turns > 0 && turn(&mut first, &mut second, &mut work, &mut out, &mut line) {
+    while turns > 0
+        && turn(
+            &console,
+            &mut first,
+            &mut second,
+            &mut work,
+            &mut out,
+            &mut line,
+        )
+    {
         turns -= 1;
     }
 }

@@ -1,40 +1,43 @@
 // examples FILE WORDS FILE WORDS ..: judges each word of each file of words by the automaton of the file named before it.
 // A line of a file of words is `+ WORD` or `- WORD`, accepted or rejected; the empty word's is the sign alone. What is written
 // is the name of the file of words, then its lines with the answer's sign in place of the one that stands there.
+#![tactic(auto)]
+
 ghost use Rattle.std.specs.Prelude.{◌≤◌, length};
 
+use book_console::console::Console;
 use book_console::files::{Loaded, load};
 use book_console::refusals::tell_refusal;
 use book_console::words::{say, say_argument};
 use table::Membership;
 
 // A line of the answer. Cost: the line.
-fn say_line(sign: &[u8], word: &[u8]) {
-    say(1, sign);
+fn say_line(console: &Console, sign: &[u8], word: &[u8]) {
+    say(console, 1, sign);
     if word.len() > 0 {
-        say(1, b" ");
-        say(1, word);
+        say(console, 1, b" ");
+        say(console, 1, word);
     }
-    say(1, b"\n");
+    say(console, 1, b"\n");
 }
 
 // Judges a word. `argument` names the file. Cost: that of `table::accepts`, and the line or that of `tell_refusal`.
-fn judge(argument: usize, file: &[u8], word: &[u8], work: &mut [u64]) {
+fn judge(console: &Console, argument: usize, file: &[u8], word: &[u8], work: &mut [u64]) {
     match table::accepts(file, word, work) {
-        Membership::Accepted(_) => say_line(b"+", word),
-        Membership::Rejected(_) => say_line(b"-", word),
+        Membership::Accepted(_) => say_line(console, b"+", word),
+        Membership::Rejected(_) => say_line(console, b"-", word),
         Membership::Refused(number, automaton) => {
-            tell_refusal(number, automaton, argument, argument, file, file);
+            tell_refusal(console, number, automaton, argument, argument, file, file);
         }
     }
 }
 
 // Judges the word of a line: what stands behind the sign and a space. Cost: that of `judge`.
-fn judge_line(argument: usize, file: &[u8], line: &[u8], work: &mut [u64]) {
+fn judge_line(console: &Console, argument: usize, file: &[u8], line: &[u8], work: &mut [u64]) {
     if line.len() < 2 {
-        judge(argument, file, &line[0..0], work);
+        judge(console, argument, file, &line[0..0], work);
     } else {
-        judge(argument, file, &line[2..], work);
+        judge(console, argument, file, &line[2..], work);
     }
 }
 
@@ -54,38 +57,39 @@ fn line_end(text: &[u8], from: usize) -> usize
 }
 
 // Judges every line of the text. Cost: that of `judge_line` for each line.
-fn judge_lines(argument: usize, file: &[u8], text: &[u8], work: &mut [u64]) {
+fn judge_lines(console: &Console, argument: usize, file: &[u8], text: &[u8], work: &mut [u64]) {
     let mut at: usize = 0;
     while at < text.len() {
         let end = line_end(text, at);
-        judge_line(argument, file, &text[at..end], work);
+        judge_line(console, argument, file, &text[at..end], work);
         at = end + 1;
     }
 }
 
 // Judges the words of the file that the second argument names by the automaton of the one that the first names.
 // Cost: both files are read once, and then that of `judge_lines`.
-fn judge_example(first: usize, second: usize) {
+fn judge_example(console: &Console, first: usize, second: usize) {
     let mut file = [0u8; 41293];
     let mut text = [0u8; 41293];
     let mut work = [0u64; 8192];
-    let Loaded::Bytes(n) = load(first, &mut file) else {
+    let Loaded::Bytes(n) = load(console, first, &mut file) else {
         return;
     };
-    let Loaded::Bytes(m) = load(second, &mut text) else {
+    let Loaded::Bytes(m) = load(console, second, &mut text) else {
         return;
     };
-    say_argument(1, second);
-    say(1, b"\n");
-    judge_lines(first, &file[0..n], &text[0..m], &mut work);
+    say_argument(console, 1, second);
+    say(console, 1, b"\n");
+    judge_lines(console, first, &file[0..n], &text[0..m], &mut work);
 }
 
 // Arguments are taken two by two, a thousand at most.
-fn main() {
-    let count = os::arg_count();
+fn main(rt: HostRuntime) {
+    let console = &Console::new(rt);
+    let count = console.argument_count();
     let mut i: usize = 1;
     while i < 1000 && i < count {
-        judge_example(i, i + 1);
+        judge_example(console, i, i + 1);
         i += 2;
     }
 }

@@ -1,4 +1,7 @@
 // refusals: writes what each refusal's number means, one a line.
+#![tactic(auto)]
+
+use book_console::console::Console;
 use book_console::refusals::say_meaning;
 use book_console::words::{say, say_number};
 
@@ -11,20 +14,19 @@ fn is_refusal(number: u8) -> bool {
 }
 
 // The line of a number that means a refusal; of another nothing. Cost: the line.
-fn say_refusal(number: u8) {
+fn say_refusal(console: &Console, number: u8) {
     if is_refusal(number) {
-        say_number(1, number as u64);
-        say(1, b" ");
-        say_meaning(1, number);
-        say(1, b"\n");
+        say_number(console, 1, number as u64);
+        say(console, 1, b" ");
+        say_meaning(console, 1, number);
+        say(console, 1, b"\n");
     }
 }
 
 // Every refusal, one a line. Cost: the lines.
-fn main() {
-    let mut number: u8 = 0;
-    while number < 36 {
-        say_refusal(number);
-        number += 1;
+fn main(rt: HostRuntime) {
+    let console = &Console::new(rt);
+    for number in 0..36 {
+        say_refusal(console, number);
     }
 }

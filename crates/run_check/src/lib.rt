@@ -2,6 +2,8 @@
 // automaton of the file accepts it: `accepted LIVE WORD` or `rejected LIVE WORD`, LIVE being the number of configurations live after the word.
 // An empty line is the empty word. A file that is refused is told once, on standard error, and no word is read. The status is 0 where every
 // word was accepted, 1 where one was rejected, 2 where something was refused or failed.
+#![tactic(auto)]
+
 ghost use Rattle.std.specs.Prelude.{◌≤◌, length};
 ghost use Rattle.line_text.specs.Writing.{Writes};
 ghost use Rattle.table.specs.Judging.{Judging};
@@ -9,6 +11,7 @@ ghost use Rattle.book_words.specs.Places.{Standing};
 ghost use Rattle.run_check.specs.AnswerLine.{answer_line};
 
 use book_console::calls::{FAILED, NO, YES, is_help, say_usage, status_of};
+use book_console::console::Console;
 use book_console::files::{Loaded, load};
 use book_console::refusals::tell_refusal;
 use book_words::{
@@ -33,6 +36,7 @@ fn put_answer(answer: &[u8], live: u64, word: &[u8], out: &mut [u8], at: usize) 
 
 // Puts the line of an answer into the output. Cost: the bytes of the line, and where there is no room for it that of writing what waits.
 fn tell(
+    console: &Console,
     answer: &[u8],
     status: u8,
     live: u64,
@@ -40,7 +44,7 @@ fn tell(
     out: &mut [u8],
     output: Output,
 ) -> Output {
-    let ready = make_room(out, output);
+    let ready = make_room(console, out, output);
     let at = ready.waiting;
     let end = put_answer(answer, live, word, out, at);
     answered(ready, end, status)
@@ -48,6 +52,7 @@ fn tell(
 
 // Judges a word and tells the answer. The file is not refused, so no word is. Cost: that of `table::judging::judge` and of `tell`.
 fn answer(
+    console: &Console,
     file: &[u8],
     c: Counts,
     word: &[u8],
@@ -60,14 +65,15 @@ fn answer(
     ensures { Judging file.now c work.new block }
 {
     match judge(file, c, word, work, block) {
-        Membership::Accepted(live) => tell(b"accepted ", YES, live, word, out, output),
-        Membership::Rejected(live) => tell(b"rejected ", NO, live, word, out, output),
+        Membership::Accepted(live) => tell(console, b"accepted ", YES, live, word, out, output),
+        Membership::Rejected(live) => tell(console, b"rejected ", NO, live, word, out, output),
         Membership::Refused(_, _) => failed(),
     }
 }
 
 // One word, or a further read of the input. Cost: the bytes of the line and that of `answer`, or that of `refill`.
 fn turn(
+    console: &Console,
     file: &[u8],
     c: Counts,
     text: &mut [u8],
@@ -87,7 +93,7 @@ fn turn(
     let to = input.to;
     let feed = line_feed(text, seen, to);
     if feed >= to {
-        return refill(text, out, input, output);
+        return refill(console, text, out, input, output);
     }
     let next = pass(input, feed);
     if input.is_skipping {
@@ -96,7 +102,16 @@ fn turn(
             output,
         };
     }
-    let told = answer(file, c, &text[from..feed], out, work, block, output);
+    let told = answer(
+        console,
+        file,
+        c,
+        &text[from..feed],
+        out,
+        work,
+        block,
+        output,
+    );
     Session {
         input: next,
         output: told,
@@ -105,6 +120,7 @@ fn turn(
 
 // All words, by the automaton that is ready; answers the status. Cost: that of `turn` for each line and for each read.
 fn judge_all(
+    console: &Console,
     file: &[u8],
     c: Counts,
     text: &mut [u8],
@@ -117,7 +133,7 @@ fn judge_all(
     let mut s = begin();
     let mut turns = u64::MAX;
     while turns > 0 && !is_over(s) {
-        s = turn(file, c, text, out, work, block, s);
+        s = turn(console, file, c, text, out, work, block, s);
         turns -= 1;
     }
     status_so_far(s)
@@ -125,43 +141,58 @@ fn judge_all(
 
 // All words, where the file is not refused: its table is built once. Cost: that of `table::prepare` and of `judge_all`, or that of
 // `tell_refusal`.
-fn judge_words(before: usize, file: &[u8], text: &mut [u8], out: &mut [u8], work: &mut [u64]) -> u8
+fn judge_words(
+    console: &Console,
+    before: usize,
+    file: &[u8],
+    text: &mut [u8],
+    out: &mut [u8],
+    work: &mut [u64],
+) -> u8
     requires { before ≤ 1 }
 {
     match prepare(file, work) {
         Opened::Refused(number, automaton) => {
-            tell_refusal(number, automaton, before + 1, before + 1, file, file);
+            tell_refusal(
+                console,
+                number,
+                automaton,
+                before + 1,
+                before + 1,
+                file,
+                file,
+            );
             FAILED
         }
-        Opened::Open(c, block) => judge_all(file, c, text, out, work, block),
+        Opened::Open(c, block) => judge_all(console, file, c, text, out, work, block),
     }
 }
 
 // Loads the file, and judges the words by it. The output has room for what waits and for the longest line.
 // Cost: the file is read once, and then that of `judge_words`.
-fn check(before: usize) -> u8
+fn check(console: &Console, before: usize) -> u8
     requires { before ≤ 1 }
 {
     let mut file = [0u8; 41293];
     let mut text = [0u8; 65536];
     let mut out = [0u8; 131136];
     let mut work = [0u64; 8192];
-    let Loaded::Bytes(n) = load(before + 1, &mut file) else {
+    let Loaded::Bytes(n) = load(console, before + 1, &mut file) else {
         return FAILED;
     };
-    judge_words(before, &file[0..n], &mut text, &mut out, &mut work)
+    judge_words(console, before, &file[0..n], &mut text, &mut out, &mut work)
 }
 
 // bookcheck FILE; `before` is the number of arguments in front of FILE. Answers the status. Cost: that of `check`.
-pub fn run(before: usize) -> u8
+pub fn run(console: &Console, before: usize) -> u8
     requires { before ≤ 1 }
 {
-    if is_help(before) {
-        return status_of(say_usage(1, before, b"check", b" FILE"));
+    if is_help(console, before) {
+        return status_of(say_usage(console, 1, before, b"check", b" FILE"));
     }
-    if os::arg_count() != before + 2 {
-        say_usage(2, before, b"check", b" FILE");
+    if console.argument_count() != before + 2 {
+        say_usage(console, 2, before, b"check", b" FILE");
         return FAILED;
     }
-    check(before)
+    check(console, before)
 }

@@ -1,0 +1,14 @@
+-- The place of a fault lies in the file; where the header has no fault, the counts are in their ranges.
+use Rattle.std.proofs.Common.{◌∙◌, sym, arith}
+use Rattle.file_laws.proofs.Laws.{behind-header, file-seen, place_inside}
+use Rattle.book_listing.proofs.show.Goals as goal
+
+pub show_until-requires : goal.show_until-requires
+show_until-requires c =
+    let e = sym c.read-reading.ensures ∙ c.in-Valid.is in
+    (omega arith, λ _. (file-seen c.args.file.now _ e).header.ranges)
+
+pub show_until-requires-in-Refused : goal.show_until-requires-in-Refused
+show_until-requires-in-Refused c =
+    let e = sym c.read-reading.ensures ∙ c.in-Refused.is in
+    (place_inside c.args.file.now _ _ e, behind-header c.args.file.now e)

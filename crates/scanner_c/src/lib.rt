@@ -1,0 +1,46 @@
+// scanner_c: the functions of the crate `scanner` for C and other languages, as a static library by itself, libscanner.a; the crate
+// registered_automata_c has the same functions among its own. A slice is a pointer and a length. c/registered_automata.h says what a caller
+// needs to know of each.
+#![tactic(auto)]
+
+ghost use Rattle.std.specs.Prelude.{◌≡◌, length};
+ghost use Rattle.format.specs.Reading.{reading_of};
+ghost use Rattle.table.specs.Membership.{membership_of};
+ghost use Rattle.table_words.specs.Words.{answered, answers_of, judged_of, words_in};
+ghost use Rattle.scanner.specs.Results.{reading_fields, membership_fields, judged_fields};
+
+use scanner::results::{Membership, Reading, WordsJudged};
+
+// Is the file valid? Refusals and cost: `format::read`.
+#[unsafe(no_mangle)]
+pub extern "C" fn ra_read(file: &[u8]) -> Reading
+    ensures { result ≡ reading_fields (reading_of file.now) }
+{
+    scanner::ra_read(file)
+}
+
+// Does the automaton of the file accept the word? Refusals and cost: `table::accepts`.
+#[unsafe(no_mangle)]
+pub extern "C" fn ra_accepts(file: &[u8], word: &[u8], work: &mut [u64]) -> Membership
+    ensures same { length work.new ≡ length work.old }
+    ensures answer { result ≡ membership_fields (membership_of file.now word.now (length work.old)) }
+{
+    scanner::ra_accepts(file, word, work)
+}
+
+// Which words, one behind the other and each with the separator behind it, does the automaton of the file accept? Refusals and cost:
+// `table_words::accepts_words`.
+#[unsafe(no_mangle)]
+pub extern "C" fn ra_accepts_words(
+    file: &[u8],
+    words: &[u8],
+    separator: u8,
+    work: &mut [u64],
+    answers: &mut [u64],
+) -> WordsJudged
+    ensures same { length work.new ≡ length work.old }
+    ensures answer { result ≡ judged_fields (judged_of file.now words.now separator (length work.old) (length answers.old)) }
+    ensures answers { answers.new ≡ answered (judged_of file.now words.now separator (length work.old) (length answers.old)) (answers_of file.now (words_in separator (length answers.old) words.now) (length work.old)) answers.old }
+{
+    scanner::ra_accepts_words(file, words, separator, work, answers)
+}
