@@ -1,9 +1,9 @@
 /* Finite-state registered automata in files: read, run, unfold, join and compare them, count their words, and judge words with ranges of
  * letters.
  *
- * Link with libregistered_automata.a, which `rt staticlib registered_automata` writes to target/staticlib (x86-64).
+ * Link with libregistered_automata.a, which `tools/build registered_automata` writes to target/staticlib (x86-64).
  *
- * The scanner's part by itself is libscanner.a, which `rt staticlib scanner` writes beside it: ra_read, ra_accepts and ra_accepts_words, as
+ * The scanner's part by itself is libscanner.a, which `tools/build scanner` writes beside it: ra_read, ra_accepts and ra_accepts_words, as
  * they are declared here, and nothing else. It has less than 12,500 bytes of code, constants among them, and no data (`size`, which c/run
  * holds it to); needs RA_WORKING_WORDS working words, 65,536 bytes; and took less than 800 bytes of stack in every call that was measured. Of functions
  * outside of itself it calls memset alone. Link with one of the two, not with both.

@@ -1,5 +1,5 @@
 //! Links the engine's static library: from the folder that REGISTERED_AUTOMATA_LIB names, a path from the root, or else from
-//! target/staticlib at the top of the repository, where `rt staticlib registered_automata` writes it.
+//! target/staticlib at the top of the repository, where `tools/build registered_automata` writes it.
 
 use std::path::{Path, PathBuf};
 
@@ -16,7 +16,7 @@ fn main() {
     if !archive.exists() {
         match named {
             Some(_) => panic!("{FOLDER} names {}, which has no libregistered_automata.a", folder.display()),
-            None => panic!("no static library yet: run `rt staticlib registered_automata` at the top of the repository, or set {FOLDER} to the folder that has it"),
+            None => panic!("no static library yet: run `tools/build registered_automata` at the top of the repository, or set {FOLDER} to the folder that has it"),
         }
     }
     println!("cargo:rerun-if-changed={}", archive.display());

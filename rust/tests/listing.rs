@@ -1,6 +1,6 @@
 //! Programs on seeded random files, most of them damaged: the fault that `bookshow` tells in its last line and `bookcheck` as a
 //! refusal, and the place, are those of the plain implementation. That reading answers them is proved; that the programs print them
-//! is tested here. It needs the programs in target/bin: `rt check bookshow bookcheck`.
+//! is tested here. It needs the programs in target/bin: `tools/build bookshow bookcheck`.
 
 mod common;
 
@@ -15,7 +15,7 @@ fn program(name: &str) -> PathBuf {
     let path = Path::new(env!("CARGO_MANIFEST_DIR")).join(format!("../target/bin/{name}"));
     assert!(
         path.exists(),
-        "no program {name}: run 'rt check bookshow bookcheck'"
+        "no program {name}: run 'tools/build bookshow bookcheck'"
     );
     path
 }
