@@ -1,11 +1,13 @@
-// What a program has of the system that it runs on: its runtime, which tells its arguments and opens its files, and whether its standard
-// output has failed.
+// What a program has of the system that it runs on: its runtime, which tells its arguments and opens its files, and what its standard
+// output and standard error still take.
 ghost use Rattle.book_console.specs.Inputs.{ReadTo};
 
 use std::cell::Cell;
 use std::env::{Env, FillError};
 use std::io;
+use std::io::ErrorKind;
 use std::os::fd::AsFd;
+use std::process::ExitCode;
 
 // Numbers by which the system tells what failed: a file is not open; a file of that name is there; there is no such argument; a name is too
 // long.
@@ -17,41 +19,92 @@ const EINVAL: i32 = 22;
 
 pub const ENAMETOOLONG: i32 = 36;
 
-// The runtime that `main` is given. Once standard output has failed, nothing more is said on it.
+// The status by which a shell tells that a pipe which nobody reads has ended a program: 128, and the number of that signal.
+const CUT_OFF: u8 = 141;
+
+// The runtime that `main` is given; whether a pipe that nobody reads is told as any write that fails is, or cuts the program off; and
+// whether standard output and standard error have ended, and whether such a pipe ended them. What has ended takes nothing more.
 #[derive(Drop)]
 pub struct Console {
     pub rt: HostRuntime,
-    has_failed: Cell<bool>,
+    tells_pipes: bool,
+    is_output_ended: Cell<bool>,
+    is_error_ended: Cell<bool>,
+    is_cut_off: Cell<bool>,
 }
 
 impl Console {
     // A program that has said nothing yet. Cost: constant.
-    pub fn new(rt: HostRuntime) -> Console {
+    fn begin(rt: HostRuntime, tells_pipes: bool) -> Console {
         Console {
             rt,
-            has_failed: Cell::new(false),
+            tells_pipes,
+            is_output_ended: Cell::new(false),
+            is_error_ended: Cell::new(false),
+            is_cut_off: Cell::new(false),
         }
     }
 
-    // Whether nothing more is to be said on a file: standard output, which has failed. Cost: constant.
+    // A program that a pipe which nobody reads cuts off. Cost: constant.
+    pub fn new(rt: HostRuntime) -> Console {
+        Console::begin(rt, false)
+    }
+
+    // A program to which a pipe that nobody reads is a write that fails. Cost: constant.
+    pub fn telling_pipes(rt: HostRuntime) -> Console {
+        Console::begin(rt, true)
+    }
+
+    // Whether nothing more is to be said on a file. Cost: constant.
     pub fn is_ended(&self, file: i32) -> bool {
-        file == 1 && self.has_failed.get()
+        match file {
+            1 => self.is_output_ended.get(),
+            2 => self.is_error_ended.get(),
+            _ => false,
+        }
     }
 
     // Nothing more is to be said on the file. Cost: constant.
     pub fn end(&self, file: i32) {
-        if file == 1 {
-            self.has_failed.set(true);
+        match file {
+            1 => self.is_output_ended.set(true),
+            2 => self.is_error_ended.set(true),
+            _ => {}
         }
     }
 
-    // Writes bytes to standard output, 1, or standard error, 2; no other file is open for that. Cost: the bytes.
+    // Where the error is that of a pipe which nobody reads, and no write that fails as others do, nothing more is to be said on any file.
+    // Cost: constant.
+    pub fn note(&self, error: &io::Error) {
+        if error.kind() == ErrorKind::BrokenPipe && !self.tells_pipes {
+            self.is_cut_off.set(true);
+            self.end(1);
+            self.end(2);
+        }
+    }
+
+    // The status of a program that tells none: 0, or that of one which was cut off. Cost: constant.
+    pub fn last_status(&self) -> ExitCode {
+        if self.is_cut_off.get() {
+            return ExitCode::from(CUT_OFF);
+        }
+        ExitCode::SUCCESS
+    }
+
+    // Writes bytes to standard output, 1, or standard error, 2. No other file is open for that, nor is one that has ended. Cost: the bytes.
     pub fn write(&self, file: i32, bytes: &[u8]) -> io::Result<()> {
-        match file {
+        if self.is_ended(file) {
+            return Err(io::Error::from_raw_os_error(EBADF));
+        }
+        let written = match file {
             1 => self.rt.stdout().write_all(bytes),
             2 => self.rt.stderr().write_all(bytes),
             _ => Err(io::Error::from_raw_os_error(EBADF)),
+        };
+        if let Err(error) = &written {
+            self.note(error);
         }
+        written
     }
 
     // Whether standard output is open: of a file that is not, there is no second descriptor. Cost: two calls.

@@ -1,6 +1,8 @@
 // Names of files: the folder in a name, what a symbolic link leads to, and a name beside another. A name is UTF-8 text: the standard
 // library opens no other.
-ghost use Rattle.std.specs.Prelude.{◌≡◌, ◌≤◌, IfOk, length};
+ghost use Rattle.std.specs.IoError.{raw_os_error};
+ghost use Rattle.std.specs.Prelude.{◌≡◌, ◌≤◌, IfErr, IfOk, length};
+ghost use Rattle.std.specs.declared.option.Option.TheVariants.{None};
 
 use super::console::{Console, ENAMETOOLONG};
 use super::words::same_bytes;
@@ -66,35 +68,43 @@ fn follow(path: &mut [u8], n: usize, text: &[u8]) -> usize
     line_text::put(text, path, folder)
 }
 
-// The same of the first n bytes, where they name a link; 0 where they do not. What a link says has to be text too. Cost: one call, and the
-// bytes of both.
+// The same of the first n bytes, where they name a link; 0 where they do not. What a link says has to be text too: that it is none, or has
+// no memory, is an error of the library, and no other is answered. Cost: one call, and the bytes of both.
 fn step(console: &Console, path: &mut [u8], n: usize) -> io::Result<usize>
     requires { n ≤ length path.old }
     ensures ok { IfOk result (λ k. k ≤ length path.new) }
+    ensures err { IfErr result (λ error. raw_os_error error ≡ None) }
     ensures kept { length path.new ≡ length path.old }
 {
     if is_open_file(&path[0..n]) {
         return Ok(0);
     }
-    let text = match fs::read_link(&console.rt, as_text(&path[0..n])?) {
-        Ok(text) => text,
-        Err(error) => {
-            // The system refuses a name that is no link. What is no text, and what has no memory, only the library does.
-            return match error.raw_os_error() {
-                Some(_) => Ok(0),
-                None => Err(error),
-            };
-        }
+    let Ok(name) = as_text(&path[0..n]) else {
+        return Ok(0);
     };
-    Ok(follow(path, n, text.as_str().as_bytes()))
+    match fs::read_link(&console.rt, name) {
+        Ok(text) => {
+            let bytes = text.as_str().as_bytes();
+            if bytes.is_empty() {
+                return Ok(0);
+            }
+            Ok(follow(path, n, bytes))
+        }
+        // The system refuses a name that is no link.
+        Err(error) => match error.raw_os_error() {
+            Some(_) => Ok(0),
+            None => Err(error),
+        },
+    }
 }
 
 // Puts the path that the links of this name lead to in the place of the first n bytes, and answers how long it is. Links that lead from one
-// to the next more than 40 times are left, and no call takes them. Where a link cannot be read, as one that is no text, the error is
-// answered, and the path holds the name of that link. Cost: that of `step` for each link.
+// to the next more than 40 times are left, and no call takes them. Where what a link says is no text, or has no memory, the error of that
+// is answered, which is none of the system's, and the path holds the name of that link. Cost: that of `step` for each link.
 pub fn resolve(console: &Console, path: &mut [u8], n: usize) -> io::Result<usize>
     requires { n ≤ length path.old }
     ensures ok { IfOk result (λ k. k ≤ length path.new) }
+    ensures err { IfErr result (λ error. raw_os_error error ≡ None) }
     ensures kept { length path.new ≡ length path.old }
 {
     let mut length = n;

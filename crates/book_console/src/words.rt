@@ -3,13 +3,14 @@ ghost use Rattle.std.specs.Prelude.{◌≡◌, ◌↔◌, T};
 ghost use Rattle.book_console.specs.Inputs.{Asked};
 
 use super::console::{Console, is_not_open};
+use arrayvec::ArrayString;
+use std::fmt::Write;
 use std::io;
 
-// What an error says, without the number that the system has for it. Cost: the text.
+// What an error says, without the number that the system has for it; no error of the library says more than 320 bytes. Cost: the text.
 fn say_reason(console: &Console, error: &io::Error) {
-    let Ok(text) = error.to_string(console.rt.alloc()) else {
-        return;
-    };
+    let mut text = ArrayString::<320>::new();
+    let _ = write!(text, "{error}");
     match text.as_str().split_once(" (os error ") {
         Some((reason, _)) => {
             let _ = console.write(2, reason.as_bytes());
@@ -20,8 +21,10 @@ fn say_reason(console: &Console, error: &io::Error) {
     }
 }
 
-// Tells on standard error what failed, as the caller names it, and why. Cost: the line.
+// Tells on standard error what failed, as the caller names it, and why; a pipe that nobody reads is told only where the program tells it.
+// Cost: the line.
 pub fn fail(console: &Console, what: &[u8], error: &io::Error) {
+    console.note(error);
     let _ = console.write(2, what);
     let _ = console.write(2, b": ");
     say_reason(console, error);
@@ -31,9 +34,6 @@ pub fn fail(console: &Console, what: &[u8], error: &io::Error) {
 // Writes the text, and answers whether that passed. That it failed is told on standard error, once: nothing more is said on the file then,
 // and that a file which is not open takes nothing is not told. Cost: the text.
 pub fn say(console: &Console, file: i32, text: &[u8]) -> bool {
-    if console.is_ended(file) {
-        return false;
-    }
     match console.write(file, text) {
         Ok(()) => true,
         Err(error) => {

@@ -3,8 +3,11 @@
 #![tactic(auto)]
 
 use book_console::console::Console;
+use std::process::ExitCode;
 
 // The status is not told: the front `mlb` tells it. Cost: that of `run_compare::run`.
-fn main(rt: HostRuntime) {
-    run_compare::run(&Console::new(rt), 0);
+fn main(rt: HostRuntime) -> ExitCode {
+    let console = Console::new(rt);
+    run_compare::run(&console, 0);
+    console.last_status()
 }

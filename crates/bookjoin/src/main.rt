@@ -3,8 +3,11 @@
 #![tactic(auto)]
 
 use book_console::console::Console;
+use std::process::ExitCode;
 
 // The status is not told: the front `mlb` tells it. Cost: that of `run_join::run`.
-fn main(rt: HostRuntime) {
-    run_join::run(&Console::new(rt), 0);
+fn main(rt: HostRuntime) -> ExitCode {
+    let console = Console::new(rt);
+    run_join::run(&console, 0);
+    console.last_status()
 }

@@ -2,8 +2,11 @@
 #![tactic(auto)]
 
 use book_console::console::Console;
+use std::process::ExitCode;
 
 // The status is not told: the front `mlb` tells it. Cost: that of `run_unfold::run`.
-fn main(rt: HostRuntime) {
-    run_unfold::run(&Console::new(rt), 0);
+fn main(rt: HostRuntime) -> ExitCode {
+    let console = Console::new(rt);
+    run_unfold::run(&console, 0);
+    console.last_status()
 }

@@ -11,6 +11,7 @@ use book_console::console::Console;
 use book_console::files::read_full;
 use book_console::words::write_out;
 use file_writing::Written;
+use std::process::ExitCode;
 
 // What a record begins with: its operation, the lengths of its first and its second bytes, how many working words and how many bytes of
 // output or of a word it lends, and how many letters the words have that are to be counted.
@@ -202,7 +203,7 @@ fn turn(
 
 // The buffers are as long as the longest file, word, working memory and output of the cases; `line` holds that output
 // in hexadecimal. Cost: that of `turn` for each record.
-fn main(rt: HostRuntime) {
+fn main(rt: HostRuntime) -> ExitCode {
     let console = Console::new(rt);
     let mut first = [0u8; 41293];
     let mut second = [0u8; 41293];
@@ -222,4 +223,5 @@ fn main(rt: HostRuntime) {
     {
         turns -= 1;
     }
+    console.last_status()
 }

@@ -9,6 +9,7 @@ use book_console::console::Console;
 use book_console::files::{Loaded, load};
 use book_console::refusals::tell_refusal;
 use book_console::words::{say, say_argument};
+use std::process::ExitCode;
 use table::Membership;
 
 // A line of the answer. Cost: the line.
@@ -84,7 +85,7 @@ fn judge_example(console: &Console, first: usize, second: usize) {
 }
 
 // Arguments are taken two by two, a thousand at most.
-fn main(rt: HostRuntime) {
+fn main(rt: HostRuntime) -> ExitCode {
     let console = &Console::new(rt);
     let count = console.argument_count();
     let mut i: usize = 1;
@@ -92,4 +93,5 @@ fn main(rt: HostRuntime) {
         judge_example(console, i, i + 1);
         i += 2;
     }
+    console.last_status()
 }

@@ -68,8 +68,7 @@ pub fn mlb_run(console: &Console) -> u8 {
     run_command(console)
 }
 
-// The status is the process's. A pipe that nobody reads is an error of the write and not the end of the process: the runtime sees to that
-// before it calls this. Cost: that of `mlb_run`.
+// The status is the process's. A pipe that nobody reads is an error of the write and not the end of the process. Cost: that of `mlb_run`.
 fn main(rt: HostRuntime) -> ExitCode {
-    ExitCode::from(mlb_run(&Console::new(rt)))
+    ExitCode::from(mlb_run(&Console::telling_pipes(rt)))
 }

@@ -4,6 +4,7 @@
 use book_console::console::Console;
 use book_console::refusals::say_meaning;
 use book_console::words::{say, say_number};
+use std::process::ExitCode;
 
 // Does the number mean a refusal? Cost: constant.
 fn is_refusal(number: u8) -> bool {
@@ -24,9 +25,10 @@ fn say_refusal(console: &Console, number: u8) {
 }
 
 // Every refusal, one a line. Cost: the lines.
-fn main(rt: HostRuntime) {
+fn main(rt: HostRuntime) -> ExitCode {
     let console = &Console::new(rt);
     for number in 0..36 {
         say_refusal(console, number);
     }
+    console.last_status()
 }
