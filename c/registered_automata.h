@@ -5,14 +5,15 @@
  *
  * The scanner's part by itself is libscanner.a, which `tools/build scanner` writes beside it: ra_read, ra_accepts and ra_accepts_words, as
  * they are declared here, and nothing else. It has less than 12,500 bytes of code, constants among them, and no data (`size`, which c/run
- * holds it to); needs RA_WORKING_WORDS working words, 65,536 bytes; and took less than 800 bytes of stack in every call that was measured. Of functions
- * outside of itself it calls memset alone. Link with one of the two, not with both.
+ * holds it to); needs RA_WORKING_WORDS working words, 65,536 bytes; and took less than 800 bytes of stack in every call that was measured, with the
+ * compiler of rattle-kit-5b-plain. Of functions outside of itself it calls memset alone. Link with one of the two, not with both.
  *
  * Memory. The library allocates nothing, keeps nothing between calls and has no state of its own: it looks only at the bytes
  * handed to it and writes only to the memory lent to it, so calls in different threads may run at the same time if they are lent
  * different memory. All memory belongs to the caller before, during and after a call. A pointer whose length is 0 may be null.
  * Memory that a call may write to must not overlap any other that it is handed.
- * Stack: less than 2,000 bytes were measured in every call, the most in ra_compare, less than 900 where no two files are handed in.
+ * Stack: less than 2,000 bytes were measured in every call, the most in ra_compare, less than 900 where no two files are handed in, with
+ * the compiler of rattle-kit-5b-plain.
  *
  * Every call comes back, on every input: a file may hold any bytes.
  *
