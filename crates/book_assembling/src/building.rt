@@ -1,117 +1,72 @@
-// The file of a draft: the header, the letters and the flags in front, and the arcs moved behind them.
-ghost use Rattle.std.specs.Prelude.{◌≡◌, ◌≤◌, min};
+// The file of a draft: the header, the letters, the flags, the arcs.
+use book_draft::{Draft, Kind, Operation};
 
-use book_draft::Draft;
-use book_draft::words::{flag, letter};
-use book_tokens::byte_at;
+// What a file has in place of a letter's number where the arc is an empty move.
+const EMPTY_MOVE: u8 = 255;
 
-// Where the arcs' bytes stand until their place is known: behind the longest header, letters and flags.
-pub const ARCS_AT: usize = 332;
+// The front of the lent bytes, up to the end of what is written.
+#[derive(Drop)]
+struct Front<'a> {
+    bytes: &'a mut [u8],
+    end: usize,
+}
 
-// The smaller of two. Cost: constant.
-fn least(a: usize, b: usize) -> usize
-    ensures { result ≡ min a b }
-{
-    if a < b {
-        return a;
+impl<'a> Front<'a> {
+    // One byte more, if there is room. Cost: constant.
+    fn put(&mut self, byte: u8) {
+        if let Some(place) = self.bytes.get_mut(self.end) {
+            *place = byte;
+            self.end += 1;
+        }
     }
-    b
-}
 
-// Stores a byte at a place, if there is one. Cost: constant.
-fn store(out: &mut [u8], at: usize, byte: u8) {
-    if at < out.len() {
-        out[at] = byte;
+    // Bytes more. Cost: the bytes.
+    fn put_all(&mut self, bytes: &[u8]) {
+        for byte in bytes {
+            self.put(*byte);
+        }
     }
-}
-
-// Stores bytes at the front. Cost: the bytes.
-fn put_front(out: &mut [u8], bytes: &[u8]) {
-    for i in 0..bytes.len() {
-        store(out, i, byte_at(bytes, i));
-    }
-}
-
-// The low byte of a number. Cost: constant.
-fn low(n: usize) -> u8 {
-    (n % 256) as u8
-}
-
-// The byte above it. Cost: constant.
-fn high(n: usize) -> u8 {
-    (n / 256 % 256) as u8
 }
 
 // The mark, the version and the counts. Cost: constant.
-fn put_header(out: &mut [u8], d: Draft) {
-    let registers = d.register_count();
-    let symbols = d.symbol_count();
-    let header = [
-        0x4D,
-        0x4C,
-        0x42,
-        1,
-        0,
-        low(d.letters),
-        low(d.states),
-        high(d.states),
-        low(registers),
-        low(symbols),
-        low(d.arcs),
-        high(d.arcs),
-    ];
-    put_front(out, &header);
+fn put_header(front: &mut Front<'_>, draft: &Draft<'_>) {
+    let [letters, ..] = draft.letters.len().to_le_bytes();
+    let [states, more_states, ..] = draft.states.len().to_le_bytes();
+    let [symbols, ..] = draft.symbol_count().to_le_bytes();
+    let [arcs, more_arcs, ..] = draft.arcs.len().to_le_bytes();
+    front.put_all(b"MLB");
+    front.put_all(&[1, 0, letters, states, more_states]);
+    front.put_all(&[draft.register_count(), symbols, arcs, more_arcs]);
 }
 
-// The letters, behind the header. Cost: the letters.
-fn put_letters(words: &[usize], out: &mut [u8], count: usize)
-    requires { count ≤ 64 }
-{
-    for i in 0..count {
-        store(out, 12 + i, letter(words, i));
-    }
-}
-
-// The final flags, from the place `at` on. Cost: the states.
-fn put_flags(words: &[usize], out: &mut [u8], at: usize, count: usize)
-    requires { (at ≤ 76) × (count ≤ 256) }
-{
-    for i in 0..count {
-        store(out, at + i, flag(words, i));
-    }
-}
-
-// Moves the arcs' bytes to the place `at`, which is not behind theirs. Cost: the bytes.
-fn move_arcs(out: &mut [u8], at: usize, count: usize)
-    requires { (at ≤ 332) × (count ≤ 40960) }
-{
-    for i in 0..count {
-        let byte = byte_at(out, ARCS_AT + i);
-        store(out, at + i, byte);
-    }
-}
-
-// How many bytes of arcs there are. Cost: constant.
-fn arcs_size(end: usize) -> usize
-    ensures { result ≤ 40960 }
-{
-    let last = least(end, 41292);
-    if last < ARCS_AT {
-        return 0;
-    }
-    last - ARCS_AT
+// The two bytes of an operation: its kind and its register, its symbol. Cost: constant.
+fn operation_bytes(operation: Operation) -> [u8; 2] {
+    let kind = match operation.kind {
+        Kind::Read => 0,
+        Kind::Write => 16,
+    };
+    [kind | operation.register, operation.symbol]
 }
 
 // Writes the file to the front of the output, and answers how many bytes it has. Cost: one pass over it.
-pub fn build(words: &[usize], out: &mut [u8], d: Draft) -> usize {
-    let letters = least(d.letters, 64);
-    let states = least(d.states, 256);
-    let size = arcs_size(d.end);
-    let flags_at = 12 + letters;
-    let arcs_at = flags_at + states;
-    put_header(out, d);
-    put_letters(words, out, letters);
-    put_flags(words, out, flags_at, states);
-    move_arcs(out, arcs_at, size);
-    arcs_at + size
+pub fn build(draft: &Draft<'_>, out: &mut [u8]) -> usize {
+    let mut front = Front { bytes: out, end: 0 };
+    put_header(&mut front, draft);
+    front.put_all(&draft.letters);
+    for state in &draft.states {
+        front.put(u8::from(state.is_final));
+    }
+    for arc in &draft.arcs {
+        let [operations, ..] = arc.operations.len().to_le_bytes();
+        front.put_all(&[
+            arc.source,
+            arc.letter.unwrap_or(EMPTY_MOVE),
+            arc.target,
+            operations,
+        ]);
+        for operation in &arc.operations {
+            front.put_all(&operation_bytes(*operation));
+        }
+    }
+    front.end
 }

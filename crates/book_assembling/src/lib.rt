@@ -2,84 +2,64 @@
 // answered: where bytes are answered, they are a valid file.
 #![tactic(auto)]
 
-ghost use Rattle.book_assembling.specs.Assembling.{AssembledTo, NoBytes};
+ghost use Rattle.std.specs.Prelude.{IfOk};
+ghost use Rattle.book_assembling.specs.Assembling.{AssembledTo, ValidFront};
 
-use book_draft::Draft;
-use book_draft::words::ROOM;
-use book_tokens::place_in;
-use format::Reading;
+use arrayvec::ArrayVec;
+use book_draft::{Draft, Fault, State, TextFault, TextReason};
+use building::build;
 use lines::read_text;
 
 mod arcs;
 mod building;
 mod lines;
 
-// How many bytes of the file stand at the front of the output; or the number of the text's first fault, its line and its column in
-// bytes, each from 1 on. `book_warnings::say_text_fault` has a sentence for each number.
-#[derive(Clone, Copy)]
-pub enum Assembled {
-    Bytes(usize),
-    Fault { what: u8, line: u64, column: u64 },
+// How many bytes of the file stand at the front of the output, and the automaton's states, each with whether a chain of arcs leads to it.
+#[derive(Drop)]
+pub struct Assembled {
+    pub size: usize,
+    pub states: ArrayVec<State, 256>,
 }
 
-// A fault of the text at a place. Cost: one pass over the text up to there.
-fn fault_at(text: &[u8], what: u8, at: usize) -> Assembled
-    ensures { NoBytes result }
-{
-    let place = place_in(text, at);
-    Assembled::Fault {
-        what,
-        line: place.line,
-        column: place.column,
-    }
-}
-
-// The first n bytes, where they are a valid file. Cost: that of reading it.
-fn checked(out: &[u8], n: usize) -> Assembled
-    ensures { AssembledTo out.now result }
+// The first n bytes are as many, where they are a valid file. Cost: that of reading it.
+fn checked(out: &[u8], n: usize) -> Result<usize, Fault>
+    ensures { IfOk result (λ size. ValidFront out.now size) }
 {
     if out.len() < n {
-        return Assembled::Fault {
-            what: 25,
-            line: 1,
-            column: 1,
-        };
+        return Err(TextReason::NoValidFile.at(0));
     }
-    let reading = format::read(&out[0..n]);
-    let Reading::Valid(_) = reading else {
-        return Assembled::Fault {
-            what: 25,
-            line: 1,
-            column: 1,
-        };
+    let Ok(_) = format::read(&out[0..n]) else {
+        return Err(TextReason::NoValidFile.at(0));
     };
-    Assembled::Bytes(n)
+    Ok(n)
 }
 
-// The file of the draft. Cost: one pass over it.
-fn built(text: &[u8], words: &[usize], out: &mut [u8], d: Draft) -> Assembled
-    ensures { AssembledTo out.new result }
+// The same as `assemble` with the fault at its place. Cost: that of `assemble`.
+fn assemble_or_fault(text: &[u8], out: &mut [u8]) -> Result<Assembled, Fault>
+    ensures { IfOk result (λ whole. ValidFront out.new whole.size) }
 {
-    if d.fault != 0 {
-        return fault_at(text, d.fault, d.place);
+    if out.len() < 41292 {
+        return Err(TextReason::OutputTooShort.at(0));
     }
-    if d.states == 0 {
-        return fault_at(text, 23, text.len());
+    let mut draft = Draft::new(text);
+    read_text(&mut draft)?;
+    if draft.states.is_empty() {
+        return Err(TextReason::NoStates.at(text.len()));
     }
-    let n = building::build(words, out, d);
-    checked(out, n)
+    let n = build(&draft, out);
+    let size = checked(out, n)?;
+    draft.mark_reached();
+    Ok(Assembled {
+        size,
+        states: draft.states,
+    })
 }
 
-// Writes the file of the automaton that the text tells to the front of `out`, and answers how many bytes it has, or the text's first
-// fault. It is lent words for its work, `book_draft::words::ROOM` of them, and room for the longest file; less is told as fault 24.
-// Both may hold anything afterwards; behind a valid text the words have the places of the states' names.
-// Cost: one pass over the text, and for each name a look at those that are declared.
-pub fn assemble(text: &[u8], words: &mut [usize], out: &mut [u8]) -> Assembled
+// Writes the file of the automaton that the text tells to the front of `out`, and answers how many bytes it has and its states, or the
+// text's first fault. It is lent room for the longest file; less is told as a fault. The room may hold anything afterwards.
+// Cost: one pass over the text, for each name a look at those that are declared, and for each state a pass over the arcs.
+pub fn assemble(text: &[u8], out: &mut [u8]) -> Result<Assembled, TextFault>
     ensures { AssembledTo out.new result }
 {
-    if words.len() < ROOM || out.len() < 41292 {
-        return fault_at(text, 24, 0);
-    }
-    let d = read_text(text, words, out);
-    built(text, words, out, d)
+    assemble_or_fault(text, out).map_err(|fault| fault.told(text))
 }

@@ -1,8 +1,6 @@
 -- Inputs: what is said of an answer about bytes that were read. No contract can say which bytes a program reads, from a file or as an
 -- argument; these say what the answer has to do with them.
-use Rattle.std.specs.Prelude.{◌≡◌, ◌↔◌, Bool, List, ◌≤◌, ℕ, T, length, take, Result, IfOk}
-use Rattle.book_console.specs.declared.files.Loaded.{Loaded}
-use Rattle.book_console.specs.declared.files.Loaded.TheVariants.{Bytes, Nothing}
+use Rattle.std.specs.Prelude.{◌≡◌, ◌↔◌, Bool, List, ◌≤◌, ℕ, T, length, take}
 
 -- so many bytes stand at the front of a text: there are as many
 abbrev pub IsPrefixLen : ℕ → List ℕ → Type 0
@@ -13,12 +11,3 @@ pub record Asked (word : List ℕ) (answer : Bool) : Type 0 where
   pub text : List ℕ
   pub short : length text ≤ 4096
   pub same : T answer ↔ (text ≡ word)
-
--- so many bytes stand at the front of the buffer, where a file was read
-abbrev pub LoadedTo : List ℕ → Loaded → Type 0
-LoadedTo buffer (Bytes n) = IsPrefixLen n buffer
-LoadedTo buffer Nothing = Unit {0}
-
--- so many bytes stand at the front of the buffer, where the read did not fail
-abbrev pub ReadTo : {E : Type 0} → List ℕ → Result ℕ E → Type 0
-ReadTo buffer read = IfOk read (λ n. IsPrefixLen n buffer)

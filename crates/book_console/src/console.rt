@@ -1,6 +1,6 @@
 // What a program has of the system that it runs on: its runtime, which tells its arguments and opens its files, and what its standard
 // output and standard error still take.
-ghost use Rattle.book_console.specs.Inputs.{ReadTo};
+ghost use Rattle.std.specs.Prelude.{◌≡◌, ◌≤◌, T, IfOk, length};
 
 use std::cell::Cell;
 use std::env::{Env, FillError};
@@ -22,12 +22,20 @@ pub const ENAMETOOLONG: i32 = 36;
 // The status by which a shell tells that a pipe which nobody reads has ended a program: 128, and the number of that signal.
 const CUT_OFF: u8 = 141;
 
-// The runtime that `main` is given; whether a pipe that nobody reads is told as any write that fails is, or cuts the program off; and
-// whether standard output and standard error have ended, and whether such a pipe ended them. What has ended takes nothing more.
+// Where a program says things: on standard output or on standard error.
+#[derive(Clone, Copy, PartialEq, Eq, Debug)]
+pub enum Stream {
+    Out,
+    Err,
+}
+
+// The runtime that `main` is given; whether the program is the front, whose first argument is a command, and to which a pipe that nobody
+// reads is a write that fails as any other, while it cuts another program off; and whether standard output and standard error have ended,
+// and whether such a pipe ended them. What has ended takes nothing more.
 #[derive(Drop)]
 pub struct Console {
     pub rt: HostRuntime,
-    tells_pipes: bool,
+    is_front: bool,
     is_output_ended: Cell<bool>,
     is_error_ended: Cell<bool>,
     is_cut_off: Cell<bool>,
@@ -35,51 +43,55 @@ pub struct Console {
 
 impl Console {
     // A program that has said nothing yet. Cost: constant.
-    fn begin(rt: HostRuntime, tells_pipes: bool) -> Console {
+    fn begin(rt: HostRuntime, is_front: bool) -> Console
+        ensures { result.is_front ≡ is_front }
+    {
         Console {
             rt,
-            tells_pipes,
+            is_front,
             is_output_ended: Cell::new(false),
             is_error_ended: Cell::new(false),
             is_cut_off: Cell::new(false),
         }
     }
 
-    // A program that a pipe which nobody reads cuts off. Cost: constant.
+    // A program that is called by its own name. Cost: constant.
     pub fn new(rt: HostRuntime) -> Console {
         Console::begin(rt, false)
     }
 
-    // A program to which a pipe that nobody reads is a write that fails. Cost: constant.
-    pub fn telling_pipes(rt: HostRuntime) -> Console {
+    // The front of the programs. Cost: constant.
+    pub fn front(rt: HostRuntime) -> Console
+        ensures { T result.is_front }
+    {
         Console::begin(rt, true)
     }
 
-    // Whether nothing more is to be said on a file. Cost: constant.
-    pub fn is_ended(&self, file: i32) -> bool {
-        match file {
-            1 => self.is_output_ended.get(),
-            2 => self.is_error_ended.get(),
-            _ => false,
+    // Whether standard output or standard error has ended. Cost: constant.
+    fn ended(&self, stream: Stream) -> &Cell<bool> {
+        match stream {
+            Stream::Out => &self.is_output_ended,
+            Stream::Err => &self.is_error_ended,
         }
     }
 
-    // Nothing more is to be said on the file. Cost: constant.
-    pub fn end(&self, file: i32) {
-        match file {
-            1 => self.is_output_ended.set(true),
-            2 => self.is_error_ended.set(true),
-            _ => {}
-        }
+    // Whether nothing more is to be said there. Cost: constant.
+    pub fn is_ended(&self, stream: Stream) -> bool {
+        self.ended(stream).get()
     }
 
-    // Where the error is that of a pipe which nobody reads, and no write that fails as others do, nothing more is to be said on any file.
+    // Nothing more is to be said there. Cost: constant.
+    pub fn end(&self, stream: Stream) {
+        self.ended(stream).set(true);
+    }
+
+    // Where the error is that of a pipe which nobody reads, and no write that fails as others do, nothing more is to be said anywhere.
     // Cost: constant.
     pub fn note(&self, error: &io::Error) {
-        if error.kind() == ErrorKind::BrokenPipe && !self.tells_pipes {
+        if error.kind() == ErrorKind::BrokenPipe && !self.is_front {
             self.is_cut_off.set(true);
-            self.end(1);
-            self.end(2);
+            self.end(Stream::Out);
+            self.end(Stream::Err);
         }
     }
 
@@ -91,15 +103,14 @@ impl Console {
         ExitCode::SUCCESS
     }
 
-    // Writes bytes to standard output, 1, or standard error, 2. No other file is open for that, nor is one that has ended. Cost: the bytes.
-    pub fn write(&self, file: i32, bytes: &[u8]) -> io::Result<()> {
-        if self.is_ended(file) {
+    // Writes bytes to standard output or standard error; what has ended is a file that is not open. Cost: the bytes.
+    pub fn write(&self, stream: Stream, bytes: &[u8]) -> io::Result<()> {
+        if self.is_ended(stream) {
             return Err(io::Error::from_raw_os_error(EBADF));
         }
-        let written = match file {
-            1 => self.rt.stdout().write_all(bytes),
-            2 => self.rt.stderr().write_all(bytes),
-            _ => Err(io::Error::from_raw_os_error(EBADF)),
+        let written = match stream {
+            Stream::Out => self.rt.stdout().write_all(bytes),
+            Stream::Err => self.rt.stderr().write_all(bytes),
         };
         if let Err(error) = &written {
             self.note(error);
@@ -114,33 +125,58 @@ impl Console {
         Ok(())
     }
 
-    // Whether there is an argument with this number; the program's own name is argument 0. Cost: constant.
-    fn has_argument(&self, argument: usize) -> bool {
+    // What stands in front of a command's name where the program is called: `book` of a program, the front's own name of the front.
+    // Cost: constant.
+    pub(crate) fn caller(&self) -> &'static [u8] {
+        if self.is_front { b"mlb " } else { b"book" }
+    }
+
+    // How many arguments stand in front of those that a command takes: the program's name, and of the front the command too. Cost: constant.
+    fn before(&self) -> usize {
+        if self.is_front { 2 } else { 1 }
+    }
+
+    // Whether there is an argument with this number; the program's own name is number 0. Cost: constant.
+    fn has_given(&self, number: usize) -> bool {
         let mut first = [0u8; 1];
-        match self.rt.arg(argument, &mut first) {
-            Err(FillError::NotPresent) => false,
-            _ => true,
-        }
+        !matches!(self.rt.arg(number, &mut first), Err(FillError::NotPresent))
     }
 
-    // How many arguments the program was started with, its own name among them. Cost: constant for each.
-    pub fn argument_count(&self) -> usize {
-        let mut count: usize = 0;
-        while count < usize::MAX && self.has_argument(count) {
-            count += 1;
-        }
-        count
-    }
-
-    // Puts an argument at the front of the buffer, and answers how many bytes it has. Cost: the text.
-    pub fn argument(&self, argument: usize, buffer: &mut [u8]) -> io::Result<usize>
-        ensures { ReadTo buffer.new result }
+    // Puts the argument with this number at the front of the buffer; the program's own name is number 0. Cost: the text.
+    fn given<'a>(&self, number: usize, buffer: &'a mut [u8]) -> io::Result<&'a [u8]>
+        ensures { IfOk result (λ text. length text.now ≤ length buffer.old) }
     {
-        match self.rt.arg(argument, buffer) {
-            Ok(n) => Ok(n),
+        match self.rt.arg(number, buffer) {
+            Ok(n) => Ok(&buffer[..n]),
             Err(FillError::NotPresent) => Err(io::Error::from_raw_os_error(EINVAL)),
             Err(FillError::TooLong) => Err(io::Error::from_raw_os_error(ENAMETOOLONG)),
         }
+    }
+
+    // How many arguments a command was given; nothing where not even what stands in front of these is there. Cost: constant for each.
+    pub fn argument_count(&self) -> Option<usize> {
+        let mut count: usize = 0;
+        for number in 0..usize::MAX {
+            if !self.has_given(number) {
+                break;
+            }
+            count = number + 1;
+        }
+        count.checked_sub(self.before())
+    }
+
+    // Puts an argument of a command at the front of the buffer, its first one being argument 0. Cost: the text.
+    pub fn argument<'a>(&self, argument: usize, buffer: &'a mut [u8]) -> io::Result<&'a [u8]>
+        ensures { IfOk result (λ text. length text.now ≤ length buffer.old) }
+    {
+        self.given(argument.saturating_add(self.before()), buffer)
+    }
+
+    // Puts the command that the front was given at the front of the buffer; none is empty, and so is one that has no room. Cost: the text.
+    pub fn command<'a>(&self, buffer: &'a mut [u8]) -> &'a [u8]
+        ensures { length result.now ≤ length buffer.old }
+    {
+        self.given(1, buffer).unwrap_or(b"")
     }
 }
 

@@ -1,5 +1,6 @@
-// Files that the program's arguments name. Argument 1 is the first one after the program's own name.
-ghost use Rattle.book_console.specs.Inputs.{IsPrefixLen, LoadedTo, ReadTo};
+// Files that the program's arguments name. Argument 0 is the first one of the program's own.
+ghost use Rattle.std.specs.Prelude.{◌≤◌, IfOk, IfSome, length};
+ghost use Rattle.book_console.specs.Inputs.{IsPrefixLen};
 
 use super::console::Console;
 use super::paths::as_text;
@@ -7,13 +8,6 @@ use super::words::fail;
 use std::fs::File;
 use std::io;
 use std::io::Read;
-
-// How many bytes of the file stand at the front of the buffer; nothing where it could not be read, and then it was told why.
-#[derive(Clone, Copy)]
-pub enum Loaded {
-    Bytes(usize),
-    Nothing,
-}
 
 // Whether a further read of an open file passes: a directory can be opened, and not be read. Cost: one read.
 fn check_readable(file: &mut File) -> io::Result<()> {
@@ -28,6 +22,7 @@ pub fn read_full(file: &mut impl Read, buffer: &mut [u8]) -> usize
     ensures { IsPrefixLen result buffer.new }
 {
     let mut done: usize = 0;
+    // kept: std's `read_exact` says nothing of how many bytes came before the end or an error, which the clause `IsPrefixLen` tells
     while done < buffer.len() {
         match file.read(&mut buffer[done..]) {
             Ok(0) | Err(_) => break,
@@ -39,8 +34,8 @@ pub fn read_full(file: &mut impl Read, buffer: &mut [u8]) -> usize
 
 // Reads the file of this name to the front of `buffer`, as far as it has room. Where nothing was read, a further read tells whether the file
 // is empty or cannot be read. Cost: one pass over the file, as far as it is read.
-pub fn read_named(console: &Console, path: &[u8], buffer: &mut [u8]) -> io::Result<usize>
-    ensures { ReadTo buffer.new result }
+pub fn read_named<'a>(console: &Console, path: &[u8], buffer: &'a mut [u8]) -> io::Result<&'a [u8]>
+    ensures { IfOk result (λ text. length text.now ≤ length buffer.old) }
 {
     let path = as_text(path)?;
     let mut file = File::open(&console.rt, path)?;
@@ -48,34 +43,33 @@ pub fn read_named(console: &Console, path: &[u8], buffer: &mut [u8]) -> io::Resu
     if n == 0 {
         check_readable(&mut file)?;
     }
-    Ok(n)
+    Ok(&buffer[..n])
 }
 
 // Reads the file of this name to the front of `buffer`, as far as it has room. Cost: one pass over the file, as far as it is read.
-fn load_path(console: &Console, path: &[u8], buffer: &mut [u8]) -> Loaded
-    ensures { LoadedTo buffer.new result }
+fn load_path<'a>(console: &Console, path: &[u8], buffer: &'a mut [u8]) -> Option<&'a [u8]>
+    ensures { IfSome result (λ bytes. length bytes.now ≤ length buffer.old) }
 {
-    let n = match read_named(console, path, buffer) {
-        Ok(n) => n,
+    match read_named(console, path, buffer) {
+        Ok(bytes) => Some(bytes),
         Err(error) => {
             fail(console, path, &error);
-            return Loaded::Nothing;
+            None
         }
-    };
-    Loaded::Bytes(n)
+    }
 }
 
-// Reads the file that an argument names to the front of `buffer`, as far as it has room.
-// Cost: one pass over the file, as far as it is read.
-pub fn load(console: &Console, argument: usize, buffer: &mut [u8]) -> Loaded
-    ensures { LoadedTo buffer.new result }
+// Reads the file that an argument names to the front of `buffer`, as far as it has room; nothing where it could not be read, and then it was
+// told why. Cost: one pass over the file, as far as it is read.
+pub fn load<'a>(console: &Console, argument: usize, buffer: &'a mut [u8]) -> Option<&'a [u8]>
+    ensures { IfSome result (λ bytes. length bytes.now ≤ length buffer.old) }
 {
     let mut path = [0u8; 4096];
     match console.argument(argument, &mut path) {
-        Ok(length) => load_path(console, &path[..length], buffer),
+        Ok(path) => load_path(console, path, buffer),
         Err(error) => {
             fail(console, b"file name", &error);
-            Loaded::Nothing
+            None
         }
     }
 }

@@ -1,130 +1,101 @@
-// Names of files: the folder in a name, what a symbolic link leads to, and a name beside another. A name is UTF-8 text: the standard
-// library opens no other.
+// Names of files: what a symbolic link leads to, and a name beside another. A name is UTF-8 text: the standard library opens no other.
 ghost use Rattle.std.specs.IoError.{raw_os_error};
-ghost use Rattle.std.specs.Prelude.{◌≡◌, ◌≤◌, IfErr, IfOk, length};
+ghost use Rattle.std.specs.Prelude.{◌≡◌, IfErr, IfOk};
 ghost use Rattle.std.specs.declared.option.Option.TheVariants.{None};
 
 use super::console::{Console, ENAMETOOLONG};
-use super::words::same_bytes;
+use arrayvec::ArrayString;
+use std::fmt::Write;
 use std::io::ErrorKind;
-use std::{fs, io};
+use std::{fmt, fs, io};
 
-// The system takes names of fewer bytes than this.
-const LONGEST: usize = 4096;
+// The system takes names of at most so many bytes.
+pub const LONGEST: usize = 4095;
+
+// A name that the system takes.
+pub type Name = ArrayString<LONGEST>;
 
 // A path as text, where it is some and not too long to name a file. Cost: the bytes of the path.
 pub fn as_text(path: &[u8]) -> io::Result<&str>
     ensures { IfOk result (λ text. text.now ≡ path.now) }
 {
-    if path.len() >= LONGEST {
+    if path.len() > LONGEST {
         return Err(io::Error::from_raw_os_error(ENAMETOOLONG));
     }
-    match str::from_utf8(path) {
-        Ok(text) => Ok(text),
-        Err(_) => Err(io::Error::new(
+    str::from_utf8(path).map_err(|_| {
+        io::Error::new(
             ErrorKind::InvalidFilename,
             "a file name has to be UTF-8 text",
-        )),
-    }
+        )
+    })
 }
 
-// How many bytes of a path name its folder: those up to its last `/`. Cost: the bytes of the path.
-fn folder_length(path: &[u8]) -> usize
-    ensures { result ≤ length path.now }
+// What a path is refused with that is longer than the system takes, as the system says it of a name; it is no error of the system, since no
+// call was made. Cost: constant.
+fn too_long(_: fmt::Error) -> io::Error
+    ensures { raw_os_error result ≡ None }
 {
-    let mut i = path.len();
-    while i > 0 {
-        if path[i - 1] == b'/' {
-            return i;
-        }
-        i -= 1;
-    }
-    0
+    io::Error::new(ErrorKind::InvalidFilename, "File name too long")
 }
 
-// Whether a path begins with this word. Cost: the bytes of the word.
-fn begins(path: &[u8], word: &[u8]) -> bool {
-    let n = word.len();
-    if path.len() < n {
-        return false;
+// The text as the name of a file in the same folder as `path`. Cost: both.
+fn beside(path: &str, text: &str) -> Result<Name, fmt::Error> {
+    let mut name = Name::new();
+    if let Some((folder, _)) = path.rsplit_once('/') {
+        write!(name, "{folder}/")?;
     }
-    same_bytes(&path[0..n], word)
+    name.write_str(text)?;
+    Ok(name)
 }
 
 // Whether a path names a file that this process has open, as /dev/stdout does. Cost: constant.
-pub fn is_open_file(path: &[u8]) -> bool {
-    begins(path, b"/dev/std") || begins(path, b"/dev/fd/") || begins(path, b"/proc/")
+pub fn is_open_file(path: &str) -> bool {
+    path.starts_with("/dev/std") || path.starts_with("/dev/fd/") || path.starts_with("/proc/")
 }
 
-// Puts the path that a link of this name leads to in the place of the first n bytes, and answers how long it is. Cost: the bytes of both.
-fn follow(path: &mut [u8], n: usize, text: &[u8]) -> usize
-    requires { n ≤ length path.old }
-    ensures { result ≤ length path.new }
+// The path that a link of this name leads to, if it is the name of one. What a link says has to be text too: that it is none, has no memory or
+// leads to a longer path than the system takes is an error that is none of the system's, and no other is answered. Cost: one call, and the
+// bytes of both.
+fn linked(console: &Console, path: &str) -> io::Result<Option<Name>>
+    ensures { IfErr result (λ error. raw_os_error error ≡ None) }
 {
-    if begins(text, b"/") {
-        return line_text::put(text, path, 0);
+    if is_open_file(path) {
+        return Ok(None);
     }
-    let folder = folder_length(&path[0..n]);
-    line_text::put(text, path, folder)
-}
-
-// The same of the first n bytes, where they name a link; 0 where they do not. What a link says has to be text too: that it is none, or has
-// no memory, is an error of the library, and no other is answered. Cost: one call, and the bytes of both.
-fn step(console: &Console, path: &mut [u8], n: usize) -> io::Result<usize>
-    requires { n ≤ length path.old }
-    ensures ok { IfOk result (λ k. k ≤ length path.new) }
-    ensures err { IfErr result (λ error. raw_os_error error ≡ None) }
-    ensures kept { length path.new ≡ length path.old }
-{
-    if is_open_file(&path[0..n]) {
-        return Ok(0);
-    }
-    let Ok(name) = as_text(&path[0..n]) else {
-        return Ok(0);
-    };
-    match fs::read_link(&console.rt, name) {
+    match fs::read_link(&console.rt, path) {
         Ok(text) => {
-            let bytes = text.as_str().as_bytes();
-            if bytes.is_empty() {
-                return Ok(0);
+            let text = text.as_str();
+            if text.is_empty() {
+                return Ok(None);
             }
-            Ok(follow(path, n, bytes))
+            let folder = if text.starts_with('/') { "" } else { path };
+            Ok(Some(beside(folder, text).map_err(too_long)?))
         }
         // The system refuses a name that is no link.
-        Err(error) => match error.raw_os_error() {
-            Some(_) => Ok(0),
-            None => Err(error),
-        },
+        Err(error) if error.raw_os_error().is_some() => Ok(None),
+        Err(error) => Err(error),
     }
 }
 
-// Puts the path that the links of this name lead to in the place of the first n bytes, and answers how long it is. Links that lead from one
-// to the next more than 40 times are left, and no call takes them. Where what a link says is no text, or has no memory, the error of that
-// is answered, which is none of the system's, and the path holds the name of that link. Cost: that of `step` for each link.
-pub fn resolve(console: &Console, path: &mut [u8], n: usize) -> io::Result<usize>
-    requires { n ≤ length path.old }
-    ensures ok { IfOk result (λ k. k ≤ length path.new) }
-    ensures err { IfErr result (λ error. raw_os_error error ≡ None) }
-    ensures kept { length path.new ≡ length path.old }
+// The path that the links of this name lead to. Links that lead from one to the next more than 40 times are left, and no call takes them.
+// Where what a link says is no text, has no memory or is too long, the error of that is answered, which is none of the system's.
+// Cost: that of `linked` for each link.
+pub fn resolve(console: &Console, path: &str) -> io::Result<Name>
+    ensures { IfErr result (λ error. raw_os_error error ≡ None) }
 {
-    let mut length = n;
-    let mut links: usize = 0;
-    while links < 40 {
-        let next = step(console, path, length)?;
-        if next == 0 {
+    let mut name = beside("", path).map_err(too_long)?;
+    for _ in 0..40 {
+        let Some(next) = linked(console, name.as_str())? else {
             break;
-        }
-        length = next;
-        links += 1;
+        };
+        name = next;
     }
-    Ok(length)
+    Ok(name)
 }
 
-// Puts a name beside the path into `name`, in the same folder, and answers how long it is: `.mlb-` and how many others were tried.
-// Cost: the bytes of the path.
-pub fn name_beside(path: &[u8], tried: u64, name: &mut [u8]) -> usize {
-    let folder = folder_length(path);
-    let mut at = line_text::put(&path[0..folder], name, 0);
-    at = line_text::put(b".mlb-", name, at);
-    line_text::decimal(tried, name, at)
+// A name beside the path, in the same folder: `.mlb-` and how many others were tried; none where it has no room. Cost: the path.
+pub fn name_beside(path: &str, tried: u64) -> Option<Name> {
+    let mut text = ArrayString::<32>::new();
+    write!(text, ".mlb-{tried}").ok()?;
+    beside(path, text.as_str()).ok()
 }

@@ -1,111 +1,168 @@
-// The arcs in front of the fault, as lines of the text format.
-ghost use Rattle.std.specs.Prelude.{◌<◌, ◌≤◌, length};
+// The arcs of a file that stand whole in front of the fault, and their lines in the text format.
+ghost use Rattle.std.specs.Iterator.{at_most};
+ghost use Rattle.std.specs.Prelude.{◌<◌, ◌≤◌, ◌-◌, IfSome, length};
 
-use super::parts::say_letter;
+use super::parts::Letter;
 use book_console::console::Console;
-use book_console::words::{say, say_number};
 use book_tokens::byte_at;
 use file_fields::fields::{arc_size, operation_kind, operation_register};
+use std::fmt;
+use std::fmt::{Display, Write};
 
-// A state or a symbol, by its number. Cost: its digits.
-pub fn say_byte(console: &Console, number: u8) {
-    say_number(console, 1, number as u64);
+// An operation, shown as `R1=2` or `W1=2`; `writes` is the sign of a write.
+#[derive(Clone, Copy)]
+struct Operation<'a> {
+    first: u8,
+    symbol: u8,
+    writes: &'a str,
 }
 
-// An operation, as R1=2 or W1=2, with `writes` for the sign of a write. Cost: the text.
-fn say_operation(console: &Console, writes: &[u8], first: u8, symbol: u8) {
-    let is_read = operation_kind(first as usize) == 0;
-    if is_read {
-        say(console, 1, b" R");
-    } else {
-        say(console, 1, b" W");
+impl<'a> Display for Operation<'a> {
+    fn fmt<W: fmt::Write>(&self, f: &mut fmt::Formatter<W>) -> fmt::Result {
+        let first = usize::from(self.first);
+        let register = operation_register(first);
+        if operation_kind(first) == 0 {
+            return write!(f, "R{register}={}", self.symbol);
+        }
+        write!(f, "W{register}{}{}", self.writes, self.symbol)
     }
-    say_number(console, 1, operation_register(first as usize) as u64);
-    if is_read {
-        say(console, 1, b"=");
-    } else {
-        say(console, 1, writes);
+}
+
+// The letter of an arc, whose number is that of its place among the letters, or that it has none.
+#[derive(Clone, Copy)]
+struct ArcLetter<'a> {
+    letters: &'a [u8],
+    number: u8,
+}
+
+impl<'a> Display for ArcLetter<'a> {
+    fn fmt<W: fmt::Write>(&self, f: &mut fmt::Formatter<W>) -> fmt::Result {
+        match self.letters.get(usize::from(self.number)) {
+            Some(letter) => write!(f, "{}", Letter(*letter)),
+            None => f.write_str("empty"),
+        }
     }
-    say_byte(console, symbol);
 }
 
-// Is the only operation of the arc the read of register 0, which always passes? Cost: constant.
-pub fn is_plain(s: &[u8]) -> bool {
-    s.len() == 6 && byte_at(s, 4) == 0
+// An arc that stands whole, and the arcs in front of it.
+#[derive(Clone, Copy)]
+pub struct Arc<'a> {
+    pub in_front: &'a [u8],
+    bytes: &'a [u8],
 }
 
-// The place behind the operation at a place. Cost: constant.
-fn behind_operation(i: usize, end: usize) -> usize
-    requires { i < end }
-    ensures { (i < result) × (result ≤ end) }
+impl<'a> Arc<'a> {
+    // The state that it comes from. Cost: constant.
+    pub(crate) fn source(&self) -> u8 {
+        byte_at(self.bytes, 0)
+    }
+
+    // The number of its letter, or FF. Cost: constant.
+    pub(crate) fn letter(&self) -> u8 {
+        byte_at(self.bytes, 1)
+    }
+
+    // The state that it leads to. Cost: constant.
+    pub(crate) fn target(&self) -> u8 {
+        byte_at(self.bytes, 2)
+    }
+
+    // Its operations, two bytes each. Cost: constant.
+    fn operations(&self) -> &'a [u8] {
+        match self.bytes.get(4..) {
+            Some(operations) => operations,
+            None => b"",
+        }
+    }
+
+    // Is its only operation the read of register 0, which always passes? Cost: constant.
+    pub fn is_plain(&self) -> bool {
+        let operations = self.operations();
+        operations.len() == 2 && byte_at(operations, 0) == 0
+    }
+
+    // Does it go between the same two states as the other? Cost: constant.
+    pub(crate) fn has_same_ends(&self, other: &Arc<'a>) -> bool {
+        self.source() == other.source() && self.target() == other.target()
+    }
+
+    // Does it, with the same operations? Cost: their operations.
+    pub(crate) fn is_parallel(&self, other: &Arc<'a>) -> bool {
+        self.has_same_ends(other) && self.operations() == other.operations()
+    }
+
+    // Says the operations in their order, each behind a space; of the read of register 0 alone nothing is said. Cost: the operations.
+    pub fn say_operations(&self, console: &Console, writes: &str) {
+        if self.is_plain() {
+            return;
+        }
+        for bytes in self.operations().chunks_exact(2) {
+            let operation = Operation {
+                first: byte_at(bytes, 0),
+                symbol: byte_at(bytes, 1),
+                writes,
+            };
+            let _ = write!(console.out(), " {operation}");
+        }
+    }
+}
+
+// Where the arc at a place ends; nothing where it does not stand there whole. Cost: constant.
+fn arc_end(s: &[u8], at: usize) -> Option<usize>
+    ensures { IfSome result (λ end. (at < end) × (end ≤ length s.now)) }
 {
-    if end - i < 2 {
-        return end;
-    }
-    i + 2
-}
-
-// The operations of an arc in their order, each behind a space; of the read of register 0 alone nothing is said.
-// Cost: the operations.
-pub fn say_operations(console: &Console, writes: &[u8], s: &[u8]) {
-    if is_plain(s) {
-        return;
-    }
-    let mut i: usize = 4;
-    while i < s.len() {
-        say_operation(console, writes, s[i], byte_at(s, i + 1));
-        i = behind_operation(i, s.len());
-    }
-}
-
-// The letter of an arc, or that it has none. Cost: the text.
-fn say_arc_letter(console: &Console, letters: &[u8], number: u8) {
-    let i = number as usize;
-    if i < letters.len() {
-        say_letter(console, letters[i]);
-    } else {
-        say(console, 1, b"empty");
-    }
-}
-
-// The line of an arc, which is all of s. Cost: its operations.
-fn list_arc(console: &Console, letters: &[u8], s: &[u8]) {
-    say(console, 1, b"arc ");
-    say_byte(console, byte_at(s, 0));
-    say(console, 1, b" ");
-    say_arc_letter(console, letters, byte_at(s, 1));
-    say(console, 1, b" ");
-    say_byte(console, byte_at(s, 2));
-    say_operations(console, b"=", s);
-    say(console, 1, b"\n");
-}
-
-// Where the arc at a place ends; 0 where it does not stand there whole. Cost: constant.
-pub fn arc_end(s: &[u8], at: usize) -> usize
-    ensures { result ≤ length s.now }
-{
-    if s.len() < 4 {
-        return 0;
-    }
-    if s.len() - 4 < at {
-        return 0;
+    if s.len() < 4 || s.len() - 4 < at {
+        return None;
     }
     let size = arc_size(s, at);
     if s.len() - at < size {
-        return 0;
+        return None;
     }
-    at + size
+    Some(at + size)
+}
+
+// The arcs from the front of `bytes` on, up to the first that does not stand there whole; those in front of `at` are passed.
+#[derive(Drop)]
+pub struct Arcs<'a> {
+    bytes: &'a [u8],
+    at: usize,
+}
+
+impl<'a> Iterator for Arcs<'a> {
+    type Item = Arc<'a>;
+
+    ghost remaining = { λ s. at_most (length s.bytes.now - s.at) };
+
+    fn next(&mut self) -> Option<Arc<'a>> {
+        let end = arc_end(self.bytes, self.at)?;
+        let arc = Arc {
+            in_front: &self.bytes[0..self.at],
+            bytes: &self.bytes[self.at..end],
+        };
+        self.at = end;
+        Some(arc)
+    }
+}
+
+// The arcs of `bytes`. Cost: constant.
+pub(crate) fn whole_arcs(bytes: &[u8]) -> Arcs<'_> {
+    Arcs { bytes, at: 0 }
 }
 
 // The lines of the arcs from the front of s on that stand there whole. Cost: one pass over them.
 pub fn list_arcs(console: &Console, letters: &[u8], s: &[u8]) {
-    let mut at: usize = 0;
-    while at < s.len() {
-        let end = arc_end(s, at);
-        if end <= at {
-            return;
-        }
-        list_arc(console, letters, &s[at..end]);
-        at = end;
+    for arc in whole_arcs(s) {
+        let letter = ArcLetter {
+            letters,
+            number: arc.letter(),
+        };
+        let _ = write!(
+            console.out(),
+            "arc {} {letter} {}",
+            arc.source(),
+            arc.target()
+        );
+        arc.say_operations(console, "=");
+        let _ = writeln!(console.out());
     }
 }

@@ -9,134 +9,205 @@ ghost use Rattle.format.specs.Reading.{reading_of};
 
 use arcs::list_arcs;
 use book_console::console::Console;
-use book_console::words::{say, say_number};
 use file_fields::fields::{first_arc, flags_at};
 use file_fields::header::read_counts;
-use format::{Counts, Reading};
+use format::{Counts, Fault};
 use graph::{begin_graph, direct_graph, draw_arcs, draw_states};
 use parts::{list_letters, list_states, say_names};
+use std::fmt::Write;
 
 pub mod arcs;
 mod graph;
 mod parts;
 
-// A number, and what it counts. Cost: the text.
-fn say_count(console: &Console, n: usize, what: &[u8]) {
-    say_number(console, 1, n as u64);
-    say(console, 1, what);
+// A way to show a file: its parts in the order in which they are shown, each as far as it stands in front of the fault.
+pub trait Style {
+    // What stands in front of all parts, of a file of so many bytes.
+    fn begin(&self, console: &Console, length: usize);
+
+    // The header's counts.
+    fn counts(&self, console: &Console, c: Counts);
+
+    // The registers and the symbols.
+    fn registers(&self, console: &Console, c: Counts);
+
+    // The letters.
+    fn letters(&self, console: &Console, letters: &[u8]);
+
+    // The states, of which those from state 0 on have these flags.
+    fn states(&self, console: &Console, count: usize, flags: &[u8]);
+
+    // The arcs from the front of s on that stand there whole.
+    fn arcs(&self, console: &Console, letters: &[u8], s: &[u8]);
+
+    // What stands in front of the line of a fault.
+    fn begin_fault(&self, console: &Console);
+
+    // What stands behind that line.
+    fn end_fault(&self, console: &Console);
+
+    // What ends a file without a fault; answers whether it was written.
+    fn end(&self, console: &Console) -> bool;
 }
 
-// A comment with the header's counts; a graph has none. Cost: the line.
-fn show_counts(console: &Console, graph: bool, c: Counts) {
-    if graph {
-        return;
+// A text that assembles to the same bytes.
+#[derive(Clone, Copy)]
+pub struct Listing;
+
+impl Style for Listing {
+    // The file's length, as a comment. Cost: the line.
+    fn begin(&self, console: &Console, length: usize) {
+        let _ = writeln!(console.out(), "-- {length} bytes");
     }
-    say(console, 1, b"-- ");
-    say_count(console, c.letters, b" letters, ");
-    say_count(console, c.states, b" states, ");
-    say_count(console, c.registers, b" registers, ");
-    say_count(console, c.symbols, b" symbols, ");
-    say_count(console, c.arcs, b" arcs\n");
-}
 
-// The lines of registers and symbols, whose names are their numbers; of a graph its direction. Cost: the lines.
-fn show_registers(console: &Console, graph: bool, c: Counts) {
-    if graph {
-        direct_graph(console, c.states);
-        return;
+    // A comment. Cost: the line.
+    fn counts(&self, console: &Console, c: Counts) {
+        let Counts {
+            letters,
+            states,
+            registers,
+            symbols,
+            arcs,
+        } = c;
+        let _ = write!(
+            console.out(),
+            "-- {letters} letters, {states} states, {registers} registers, {symbols} symbols, {arcs} arcs\n"
+        );
     }
-    say(console, 1, b"registers ");
-    say_count(console, c.registers, b"\nsymbols");
-    say_names(console, c.symbols);
-    say(console, 1, b"\n");
-}
 
-// The letters. Cost: the letters.
-fn show_letters(console: &Console, graph: bool, letters: &[u8]) {
-    if graph {
-        return;
+    // The lines of both, whose names are their numbers. Cost: the lines.
+    fn registers(&self, console: &Console, c: Counts) {
+        let _ = write!(console.out(), "registers {}\nsymbols", c.registers);
+        say_names(console, c.symbols);
+        let _ = writeln!(console.out());
     }
-    list_letters(console, letters);
-}
 
-// The states with these flags; in a listing all states are named. Cost: the states.
-fn show_states(console: &Console, graph: bool, count: usize, flags: &[u8]) {
-    if graph {
-        draw_states(console, flags);
-    } else {
+    // Their line. Cost: the letters.
+    fn letters(&self, console: &Console, letters: &[u8]) {
+        list_letters(console, letters);
+    }
+
+    // The names of all, and those that are final. Cost: the states.
+    fn states(&self, console: &Console, count: usize, flags: &[u8]) {
         list_states(console, count, flags);
     }
+
+    // A line for each. Cost: one pass over them.
+    fn arcs(&self, console: &Console, letters: &[u8], s: &[u8]) {
+        list_arcs(console, letters, s);
+    }
+
+    // Nothing: the fault has a line of its own.
+    fn begin_fault(&self, _console: &Console) {}
+
+    // Nothing.
+    fn end_fault(&self, _console: &Console) {}
+
+    // A comment. Cost: the line.
+    fn end(&self, console: &Console) -> bool {
+        writeln!(console.out(), "-- no fault").is_ok()
+    }
 }
 
-// The arcs from the front of s on that stand there whole. Cost: that of the listing or the graph.
-fn show_arcs(console: &Console, graph: bool, letters: &[u8], s: &[u8]) {
-    if graph {
+// A graph in the DOT language. Of the counts and of the letters it says nothing by themselves.
+#[derive(Clone, Copy)]
+pub struct Drawing;
+
+impl Style for Drawing {
+    // What stands in front of the nodes. Cost: the text.
+    fn begin(&self, console: &Console, _length: usize) {
+        begin_graph(console);
+    }
+
+    // Nothing.
+    fn counts(&self, _console: &Console, _c: Counts) {}
+
+    // The direction of the graph. Cost: the text.
+    fn registers(&self, console: &Console, c: Counts) {
+        direct_graph(console, c.states);
+    }
+
+    // Nothing.
+    fn letters(&self, _console: &Console, _letters: &[u8]) {}
+
+    // A node for each that has a flag. Cost: the flags.
+    fn states(&self, console: &Console, _count: usize, flags: &[u8]) {
+        draw_states(console, flags);
+    }
+
+    // The edges. Cost: for each arc a few passes over s.
+    fn arcs(&self, console: &Console, letters: &[u8], s: &[u8]) {
         draw_arcs(console, letters, s);
-    } else {
-        list_arcs(console, letters, s);
+    }
+
+    // The fault stands in the graph as a comment. Cost: the text.
+    fn begin_fault(&self, console: &Console) {
+        let _ = write!(console.out(), "  // ");
+    }
+
+    // The closing brace. Cost: the text.
+    fn end_fault(&self, console: &Console) {
+        let _ = writeln!(console.out(), "}}");
+    }
+
+    // The closing brace. Cost: the text.
+    fn end(&self, console: &Console) -> bool {
+        writeln!(console.out(), "}}").is_ok()
     }
 }
 
 // Shows what stands behind the header and in front of the place `end`: of the letters and the flags as many as are there, then the
 // arcs. A part that the file ends inside is not shown. Cost: that of the listing or the graph.
-fn show_body(console: &Console, graph: bool, c: Counts, file: &[u8], end: usize)
+fn show_body<S: Style>(console: &Console, style: &S, c: Counts, file: &[u8], end: usize)
     requires { Ranges c × (12 ≤ end) × (end ≤ length file.now) }
 {
-    show_registers(console, graph, c);
+    style.registers(console, c);
     let flags = flags_at(c);
     if file.len() < flags {
         return;
     }
     if end < flags {
-        show_letters(console, graph, &file[12..end]);
+        style.letters(console, &file[12..end]);
         return;
     }
-    show_letters(console, graph, &file[12..flags]);
+    style.letters(console, &file[12..flags]);
     let arcs = first_arc(c);
     if file.len() < arcs {
         return;
     }
     if end < arcs {
-        show_states(console, graph, c.states, &file[flags..end]);
+        style.states(console, c.states, &file[flags..end]);
         return;
     }
-    show_states(console, graph, c.states, &file[flags..arcs]);
-    show_arcs(console, graph, &file[12..flags], &file[arcs..end]);
+    style.states(console, c.states, &file[flags..arcs]);
+    style.arcs(console, &file[12..flags], &file[arcs..end]);
 }
 
 // Shows what stands in front of the place `end`. The counts are shown whole where `end` is that of one of them, from byte 5 on.
 // Cost: one pass over the bytes shown.
-fn show_until(console: &Console, graph: bool, file: &[u8], end: usize)
+fn show_until<S: Style>(console: &Console, style: &S, file: &[u8], end: usize)
     requires { (end ≤ length file.now) × (12 ≤ end → Ranges (counts_of file.now)) }
 {
     if file.len() < 12 || end < 5 {
         return;
     }
     let c = read_counts(file);
-    show_counts(console, graph, c);
+    style.counts(console, c);
     if 12 <= end {
-        show_body(console, graph, c, file, end);
+        show_body(console, style, c, file, end);
     }
 }
 
-// What stands in front of a graph. Cost: the text.
-fn begin(console: &Console, graph: bool) {
-    if graph {
-        begin_graph(console);
-    }
-}
-
-// Shows the file up to its first fault, and answers what reading it answers. Of a graph all but its closing brace is written: the fault
-// can stand there as a comment. Cost: that of reading the file, and of the listing, which is one pass over the bytes shown; of the
-// graph, which is a pass over the arcs for each arc.
-pub fn show(console: &Console, graph: bool, file: &[u8]) -> Reading
+// Shows the file up to its first fault, and answers what reading it answers. What ends it, or the fault, is still to be said. Cost: that of
+// reading the file, and of the listing, which is one pass over the bytes shown; of the graph, which is a pass over the arcs for each arc.
+pub fn show<S: Style>(console: &Console, style: &S, file: &[u8]) -> Result<Counts, Fault>
     ensures { result ≡ reading_of file.now }
 {
-    begin(console, graph);
+    style.begin(console, file.len());
     let reading = format::read(file);
     match reading {
-        Reading::Valid(_) => show_until(console, graph, file, file.len()),
-        Reading::Refused(_, place) => show_until(console, graph, file, place),
+        Ok(_) => show_until(console, style, file, file.len()),
+        Err(fault) => show_until(console, style, file, fault.place),
     }
     reading
 }

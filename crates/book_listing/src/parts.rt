@@ -1,78 +1,57 @@
 // The letters and the states that stand in front of the fault, as lines of the text format.
 use book_console::console::Console;
-use book_console::words::{say, say_hex, say_number};
+use std::fmt;
+use std::fmt::{Display, Write};
 
-// A letter by itself where it is a visible character, else its byte in hexadecimal. Cost: constant.
-pub fn say_letter(console: &Console, letter: u8) {
-    if letter < 33 || letter > 126 {
-        say(console, 1, b"0x");
-        say_hex(console, letter);
-        return;
-    }
-    let text = [letter; 1];
-    say(console, 1, &text);
-}
+// A letter, shown by itself where it is a visible character, else as its byte in hexadecimal.
+#[derive(Clone, Copy)]
+pub struct Letter(pub u8);
 
-// The letters, each behind a space. Cost: the letters.
-fn say_letters(console: &Console, letters: &[u8]) {
-    for letter in letters {
-        say(console, 1, b" ");
-        say_letter(console, *letter);
+impl Display for Letter {
+    fn fmt<W: fmt::Write>(&self, f: &mut fmt::Formatter<W>) -> fmt::Result {
+        if self.0.is_ascii_graphic() {
+            return f.write_char(char::from(self.0));
+        }
+        write!(f, "0x{:02x}", self.0)
     }
 }
 
 // The line of the letters. Cost: the letters.
 pub fn list_letters(console: &Console, letters: &[u8]) {
-    say(console, 1, b"letters");
-    say_letters(console, letters);
-    say(console, 1, b"\n");
+    let _ = write!(console.out(), "letters");
+    for letter in letters {
+        let _ = write!(console.out(), " {}", Letter(*letter));
+    }
+    let _ = writeln!(console.out());
 }
 
 // The numbers below a count, each behind a space: names of symbols. Cost: the numbers.
 pub fn say_names(console: &Console, count: usize) {
     for i in 0..count {
-        say(console, 1, b" ");
-        say_number(console, 1, i as u64);
+        let _ = write!(console.out(), " {i}");
     }
 }
 
-// The number of a state as its name, sixteen to a line. Cost: constant.
-fn say_state(console: &Console, state: usize) {
-    if state % 16 == 0 && state != 0 {
-        say(console, 1, b"\nstates");
-    }
-    say(console, 1, b" ");
-    say_number(console, 1, state as u64);
-}
-
-// The lines of the states. Cost: the states.
+// The lines of the states, whose names are their numbers, sixteen to a line. Cost: the states.
 fn list_names(console: &Console, count: usize) {
-    say(console, 1, b"states");
+    let _ = write!(console.out(), "states");
     for state in 0..count {
-        say_state(console, state);
+        if state % 16 == 0 && state != 0 {
+            let _ = write!(console.out(), "\nstates");
+        }
+        let _ = write!(console.out(), " {state}");
     }
-    say(console, 1, b"\n");
-}
-
-// A final state. Cost: constant.
-fn say_final(console: &Console, state: usize, flag: u8) {
-    if flag == 1 {
-        say(console, 1, b" ");
-        say_number(console, 1, state as u64);
-    }
-}
-
-// The final states with these flags, from state 0 on. Cost: the flags.
-fn say_finals(console: &Console, flags: &[u8]) {
-    for (state, flag) in flags.iter().enumerate() {
-        say_final(console, state, *flag);
-    }
+    let _ = writeln!(console.out());
 }
 
 // The lines of all states, and of those with these flags that are final. Cost: the states.
 pub fn list_states(console: &Console, count: usize, flags: &[u8]) {
     list_names(console, count);
-    say(console, 1, b"final");
-    say_finals(console, flags);
-    say(console, 1, b"\n");
+    let _ = write!(console.out(), "final");
+    for (state, flag) in flags.iter().enumerate() {
+        if *flag == 1 {
+            let _ = write!(console.out(), " {state}");
+        }
+    }
+    let _ = writeln!(console.out());
 }

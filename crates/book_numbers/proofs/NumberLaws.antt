@@ -9,7 +9,7 @@ use borrow.Author.Tests.{leb-true}
 use lib.Dec.{leb}
 use lib.ListN.{drop, drop_of_length-le, get_or, length}
 use lib.Seq.{drop-cons}
-use Rattle.book_numbers.specs.declared.Number.TheVariants.{Nothing, Told}
+use Rattle.std.specs.Prelude.{Some, None}
 use Rattle.book_numbers.specs.Numbers.{is_digit, told_from, value_from}
 
 -- more digits make no number less
@@ -31,11 +31,11 @@ module _ (most n : ℕ) (s : List ℕ) (i : ℕ) (h : i < length s) where
   told-digit d = rw (drop-cons s i 0 h, d, value_kept most (10 * n + (get_or s i 0 - 48)) (drop (suc i) s))
 
   -- another byte
-  pub told-other : is_digit (get_or s i 0) ≡ false → told_from most n (drop i s) ≡ Nothing
+  pub told-other : is_digit (get_or s i 0) ≡ false → told_from most n (drop i s) ≡ None
   told-other d = rw (drop-cons s i 0 h, d)
 
 -- no byte left
-pub told-end : (most n : ℕ) (s : List ℕ) (i : ℕ) → length s ≤ i → n ≤ most → told_from most n (drop i s) ≡ Told n
+pub told-end : (most n : ℕ) (s : List ℕ) (i : ℕ) → length s ≤ i → n ≤ most → told_from most n (drop i s) ≡ Some n
 told-end most n s i h k = let e : min n most ≡ n = omega arith in rw (drop_of_length-le s h, e)
 
 -- a digit is at least `0`, and tells a number below ten

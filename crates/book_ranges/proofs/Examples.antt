@@ -4,7 +4,8 @@ use mathlib.Core.List.{List, [], ◌∷◌, map}
 use Prim.Native.Nat.{ℕ}
 use Rattle.automata.specs.Letters.{key}
 use Rattle.automata.specs.Words.{letter_with}
-use Rattle.book_ranges.specs.declared.Typed.TheVariants.{NoLetter, Places, Unread}
+use Rattle.std.specs.Prelude.{Ok, Err}
+use Rattle.book_ranges.specs.declared.Unread.TheVariants.{NoLetter, NoRange}
 use Rattle.book_ranges.specs.Typing.{bytes_of, places_from, places_of, typed_of}
 
 abbrev letters : List ℕ
@@ -22,7 +23,7 @@ texts =
     ∷ (0x5B ∷ 0x6D ∷ 0x2D ∷ 0x63 ∷ 0x29 ∷ [])
     ∷ []
 
-typed_texts : map (typed_of letters) texts ≡ Places 6 ∷ Places 0 ∷ NoLetter ∷ Unread 2 ∷ Places 2 ∷ Unread 1 ∷ Unread 1 ∷ []
+typed_texts : map (typed_of letters) texts ≡ Ok 6 ∷ Ok 0 ∷ Err NoLetter ∷ Err (NoRange 2) ∷ Ok 2 ∷ Err (NoRange 1) ∷ Err (NoRange 1) ∷ []
 unfolding typed_of letter_with key
 typed_texts = refl
 

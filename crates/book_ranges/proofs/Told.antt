@@ -5,19 +5,20 @@ use Prim.Native.Nat.{ℕ, ◌+◌, ◌≤◌}
 use native.Mathlib.Omega.{arith}
 use lib.ListN.{drop, length, length-append}
 use Rattle.book_ranges.specs.declared.Place.{Place}
-use Rattle.book_ranges.specs.declared.Place.TheVariants.{Foreign, Letters, NoRange}
-use Rattle.book_ranges.specs.declared.Typed.{Typed}
-use Rattle.book_ranges.specs.declared.Typed.TheVariants.{Places}
+use Rattle.std.specs.Prelude.{Result, Ok, Err}
+use Rattle.book_ranges.specs.declared.NoPlace.{NoPlace}
+use Rattle.book_ranges.specs.declared.NoPlace.TheVariants.{Foreign, NoRange}
+use Rattle.book_ranges.specs.declared.Unread.{Unread}
 use Rattle.book_ranges.specs.Typing.{answer_from, bytes_of, in_front, places_of, typed_of}
 
-told-bytes : (at told : ℕ) (places : List Place) {n : ℕ} → answer_from at told places ≡ Places n → n ≡ told + length (bytes_of places)
+told-bytes : (at told : ℕ) (places : List (Result Place NoPlace)) {n : ℕ} → answer_from at told places ≡ Ok n → n ≡ told + length (bytes_of places)
 unfolding answer_from bytes_of
 told-bytes at told [] {n} e = let same : told ≡ n = cc in omega arith
-told-bytes at told (Letters low high taken ∷ rest) e = omega (arith, told-bytes (at + taken) (told + 2) rest e)
-told-bytes at told (Foreign ∷ rest) e = let z : ◌≡◌ {A = ℕ} 0 1 = cc in absurd (omega arith)
-told-bytes at told (NoRange ∷ rest) e = let z : ◌≡◌ {A = ℕ} 0 1 = cc in absurd (omega arith)
+told-bytes at told (Ok place ∷ rest) e = omega (arith, told-bytes (at + place.taken) (told + 2) rest e)
+told-bytes at told (Err Foreign ∷ rest) e = let z : ◌≡◌ {A = ℕ} 0 1 = cc in absurd (omega arith)
+told-bytes at told (Err NoRange ∷ rest) e = let z : ◌≡◌ {A = ℕ} 0 1 = cc in absurd (omega arith)
 
-pub told-most : (letters text before after : List ℕ) (r : Typed) {n : ℕ} → r ≡ typed_of letters text → after ≡ in_front (bytes_of (places_of letters text)) before → r ≡ Places n → n ≤ length after
+pub told-most : (letters text before after : List ℕ) (r : Result ℕ Unread) {n : ℕ} → r ≡ typed_of letters text → after ≡ in_front (bytes_of (places_of letters text)) before → r ≡ Ok n → n ≤ length after
 unfolding typed_of
 told-most letters text before after r {n} answer written e =
     let bytes = bytes_of (places_of letters text) in

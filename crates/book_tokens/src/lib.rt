@@ -2,18 +2,35 @@
 // A place is a number of bytes from the text's start. Every function takes any place: behind the text there is nothing.
 #![tactic(auto)]
 
-ghost use Rattle.std.specs.Prelude.{◌≡◌, ◌+◌, ◌≤◌, ◌<◌, min, length};
+ghost use Rattle.std.specs.Prelude.{◌≡◌, ◌-◌, ◌≤◌, ◌<◌, ◌↔◌, T, length};
+ghost use Rattle.std.specs.Iterator.{at_most};
 ghost use Rattle.book_tokens.specs.Words.{WordFrom};
 
 // A word stands from one place to another. Where both are one place, there is none: the line ends there, or a comment begins.
-#[derive(Clone, Copy)]
+#[derive(Clone, Copy, PartialEq, Eq, Debug, Default)]
 pub struct Word {
     pub from: usize,
     pub to: usize,
 }
 
+impl Word {
+    // Is there no word? Cost: constant.
+    pub fn is_empty(self) -> bool
+        ensures { T result ↔ (self.to ≤ self.from) }
+    {
+        self.to <= self.from
+    }
+
+    // Its bytes in the text; none where the text has no such places. Cost: constant.
+    pub fn bytes(self, text: &[u8]) -> &[u8]
+        ensures { length result.now ≤ self.to - self.from }
+    {
+        text.get(self.from..self.to).unwrap_or(&[])
+    }
+}
+
 // The line and the column of a byte, each from 1 on.
-#[derive(Clone, Copy)]
+#[derive(Clone, Copy, PartialEq, Eq, Debug)]
 pub struct Place {
     pub line: u64,
     pub column: u64,
@@ -21,76 +38,44 @@ pub struct Place {
 
 // The byte at a place; behind the text an end of line. Cost: constant.
 pub fn byte_at(text: &[u8], at: usize) -> u8 {
-    if at < text.len() {
-        return text[at];
-    }
-    b'\n'
-}
-
-// The smaller of two. Cost: constant.
-fn least(a: usize, b: usize) -> usize
-    ensures { result ≡ min a b }
-{
-    if a < b {
-        return a;
-    }
-    b
+    text.get(at).copied().unwrap_or(b'\n')
 }
 
 // Is the byte between words? A carriage return is, so that lines may end in one. Cost: constant.
 fn is_blank(b: u8) -> bool {
-    (b == b' ') | (b == b'\t') | (b == b'\r')
+    matches!(b, b' ' | b'\t' | b'\r')
 }
 
-// The first place from this one on that has no blank. Cost: the blanks.
-fn skip_blanks(text: &[u8], at: usize) -> usize
-    requires { at ≤ length text.now }
+// The first place from this one on whose byte is as asked, or the text's end. Cost: the bytes up to there.
+fn place_where<F: Fn(u8) -> bool>(text: &[u8], at: usize, is_wanted: F) -> usize
+    requires inside { at ≤ length text.now }
+    requires callable { F.IsAlwaysCallable is_wanted }
     ensures { (at ≤ result) × (result ≤ length text.now) }
 {
-    let mut i = at;
-    while i < text.len() {
-        if !is_blank(text[i]) {
-            return i;
-        }
-        i += 1;
+    match text[at..].iter().position(|b| is_wanted(*b)) {
+        Some(behind) => at + behind,
+        None => text.len(),
     }
-    i
-}
-
-// The place where the word that stands here ends: at a blank, at the line's end or at the text's. Cost: the word.
-fn word_end(text: &[u8], at: usize) -> usize
-    requires { at ≤ length text.now }
-    ensures { (at ≤ result) × (result ≤ length text.now) }
-{
-    let mut i = at;
-    while i < text.len() {
-        if is_blank(text[i]) | (text[i] == b'\n') {
-            return i;
-        }
-        i += 1;
-    }
-    i
 }
 
 // Does a comment begin here? Cost: constant.
-fn is_comment(text: &[u8], at: usize) -> bool {
-    if at < text.len() {
-        return (text[at] == b'-') & (byte_at(text, at + 1) == b'-');
-    }
-    false
+fn is_comment(text: &[u8], at: usize) -> bool
+    requires { at ≤ length text.now }
+{
+    text[at..].starts_with(b"--")
 }
 
 // The next word of the line from this place on, or none. Cost: the bytes up to its end.
 pub fn next_word(text: &[u8], at: usize) -> Word
     ensures { WordFrom text.now at result }
 {
-    let from = skip_blanks(text, least(at, text.len()));
+    let from = place_where(text, at.min(text.len()), |b| !is_blank(b));
     if is_comment(text, from) {
         return Word { from, to: from };
     }
     Word {
         from,
-        to: word_end(text, from),
+        to: place_where(text, from, |b| is_blank(b) || b == b'\n'),
     }
 }
 
@@ -99,83 +84,100 @@ pub fn next_line(text: &[u8], at: usize) -> usize
     requires { at < length text.now }
     ensures { (at < result) × (result ≤ length text.now) }
 {
-    let mut i = at;
-    while i < text.len() {
-        if text[i] == b'\n' {
+    for (i, b) in text.iter().enumerate().skip(at) {
+        if *b == b'\n' {
             return i + 1;
         }
-        i += 1;
     }
-    i
+    text.len()
 }
 
-// How many lines the byte ends. Cost: constant.
-fn lines_in(byte: u8) -> u64
-    ensures { result ≤ 1 }
-{
-    if byte == b'\n' {
-        return 1;
-    }
-    0
+// The words of a line that are still to come. Cost of each: the bytes up to its end.
+#[derive(Clone, Copy, Debug)]
+pub struct Words<'a> {
+    text: &'a [u8],
+    at: usize,
 }
 
-// Where the line begins that goes on behind this place, if the one before began at `start`. Cost: constant.
-fn start_behind(byte: u8, i: usize, start: usize) -> usize
-    requires { (start ≤ i) × (i < 18446744073709551615) }
-    ensures { result ≤ i + 1 }
+// The words of the line that goes on at a place. Cost: constant.
+pub fn words_from(text: &[u8], at: usize) -> Words<'_>
+    ensures { (result.text.now ≡ text.now) × (result.at ≡ at) }
 {
-    if byte == b'\n' {
-        return i + 1;
+    Words { text, at }
+}
+
+impl<'a> Iterator for Words<'a> {
+    type Item = Word;
+
+    ghost remaining = { λ s. at_most (length s.text.now - s.at) };
+
+    fn next(&mut self) -> Option<Word> {
+        let word = next_word(self.text, self.at);
+        if word.is_empty() {
+            return None;
+        }
+        self.at = word.to;
+        Some(word)
     }
-    start
+}
+
+// The lines of a text that are still to come, each as its words. Cost of each: its bytes.
+#[derive(Clone, Copy, Debug)]
+pub struct Lines<'a> {
+    text: &'a [u8],
+    at: usize,
+}
+
+// The lines of a text. Cost: constant.
+pub fn lines_of(text: &[u8]) -> Lines<'_>
+    ensures { (result.text.now ≡ text.now) × (result.at ≡ 0) }
+{
+    Lines { text, at: 0 }
+}
+
+impl<'a> Iterator for Lines<'a> {
+    type Item = Words<'a>;
+
+    ghost remaining = { λ s. at_most (length s.text.now - s.at) };
+
+    fn next(&mut self) -> Option<Words<'a>> {
+        if self.text.len() <= self.at {
+            return None;
+        }
+        let words = words_from(self.text, self.at);
+        self.at = next_line(self.text, self.at);
+        Some(words)
+    }
 }
 
 // The line and the column of a place. Cost: one pass over the text up to there.
 pub fn place_in(text: &[u8], at: usize) -> Place {
-    let end = least(at, text.len());
-    let mut line: u64 = 1;
-    let mut start: usize = 0;
-    let mut i: usize = 0;
-    while i < end {
-        line += lines_in(text[i]);
-        start = start_behind(text[i], i, start);
-        i += 1;
+    let front = &text[..at.min(text.len())];
+    let mut place = Place { line: 1, column: 1 };
+    for b in front {
+        if *b == b'\n' {
+            place = Place {
+                line: place.line.saturating_add(1),
+                column: 1,
+            };
+        } else {
+            place.column = place.column.saturating_add(1);
+        }
     }
-    Place {
-        line,
-        column: (end - start) as u64 + 1,
-    }
+    place
 }
 
 // Whether two texts are the same bytes. Cost: the bytes up to the first that differs.
 pub fn same_bytes(left: &[u8], right: &[u8]) -> bool {
-    if left.len() != right.len() {
-        return false;
-    }
-    for i in 0..left.len() {
-        if byte_at(left, i) != byte_at(right, i) {
-            return false;
-        }
-    }
-    true
+    left == right
 }
 
 // Whether a word of a text is this one. Cost: its bytes.
 pub fn is_word(text: &[u8], word: Word, other: &[u8]) -> bool {
-    let from = word.from;
-    let to = word.to;
-    if to < from || text.len() < to {
-        return false;
-    }
-    same_bytes(&text[from..to], other)
+    word.bytes(text) == other
 }
 
 // Whether two words of a text are the same bytes. Cost: their bytes.
 pub fn same_words(text: &[u8], word: Word, other: Word) -> bool {
-    let from = other.from;
-    let to = other.to;
-    if to < from || text.len() < to {
-        return false;
-    }
-    is_word(text, word, &text[from..to])
+    word.bytes(text) == other.bytes(text)
 }

@@ -1,8 +1,5 @@
 -- Places: where the words of the input stand in the buffer that it is read to.
 use Rattle.std.specs.Prelude.{◌≡◌, List, ℕ, ◌+◌, ◌-◌, ◌≤◌, ◌<◌, get_or}
-use Rattle.book_console.specs.Inputs.{IsPrefixLen}
-use Rattle.book_words.specs.declared.Got.{Got}
-use Rattle.book_words.specs.declared.Got.TheVariants.{Bytes, Nothing}
 use Rattle.book_words.specs.declared.Input.{Input}
 
 -- A word is unread from a place on; up to another it has no line feed; the bytes end at a third, in the buffer.
@@ -19,8 +16,3 @@ pub record FirstFeed (text : List ℕ) (from to place : ℕ) : Type 0 where
 -- the bytes between two places stand at the front
 abbrev pub MovedFront : (from to : ℕ) (old new : List ℕ) → Type 0
 MovedFront from to old new = (j : ℕ) → j < to - from → get_or new j 0 ≡ get_or old (from + j) 0
-
--- so many bytes were read to the front of the buffer
-abbrev pub GotTo : List ℕ → Got → Type 0
-GotTo buffer (Bytes n) = IsPrefixLen n buffer
-GotTo buffer (Nothing _) = Unit {0}

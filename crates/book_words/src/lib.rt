@@ -1,16 +1,14 @@
 // book_words: words from standard input, one a line, and the lines of their answers to standard output, many bytes to a call of the system.
-// The bytes of the input stand in a buffer, and the places in it are a struct that goes from call to call; so it is with the output. What
-// waits in the output is written when it has no room for a further line, before the input is waited for, and before anything is told on
-// standard error.
+// The bytes of the input stand in a buffer, and the places in it are a struct; so it is with the output. What waits in the output is
+// written when it has no room for a further line, before the input is waited for, and before anything is told on standard error.
 #![tactic(auto)]
 
 ghost use Rattle.std.specs.Prelude.{◌≡◌, ◌≤◌, ◌<◌, length};
-ghost use Rattle.book_words.specs.Places.{FirstFeed, GotTo, MovedFront, Standing};
+ghost use Rattle.book_words.specs.Places.{FirstFeed, MovedFront, Standing};
 
-use book_console::calls::FAILED;
-use book_console::console::Console;
+use book_console::calls::Status;
+use book_console::console::{Console, Stream};
 use book_console::words::{fail, say, say_number, write_out};
-use std::io;
 use std::io::Read;
 
 // The longest line of an answer: a word, and what stands in front of it and behind it.
@@ -18,7 +16,7 @@ pub const LONGEST_LINE: usize = 65600;
 
 // Where the bytes of the input stand in their buffer. The word that is not judged yet begins at `from`, has no line feed in front of
 // `seen`, and the bytes end at `to`. Lines count from 1. The rest of a word that is too long is skipped, up to its line feed.
-#[derive(Clone, Copy)]
+#[derive(Clone, Copy, Debug)]
 pub struct Input {
     pub from: usize,
     pub seen: usize,
@@ -28,115 +26,66 @@ pub struct Input {
     pub is_ended: bool,
 }
 
-// So many bytes of the output wait to be written; the status so far; whether the run is over.
-#[derive(Clone, Copy)]
-pub struct Output {
+// The lines of the answers, of which so many bytes wait in `out` to be written; the status so far; whether the run is over.
+#[derive(Drop)]
+pub struct Answers<'a> {
+    pub out: &'a mut [u8],
     pub waiting: usize,
-    pub status: u8,
-    pub is_over: bool,
+    status: Status,
+    is_over: bool,
 }
 
-// Both.
+// A word of the input, without its line feed: it stood in the buffer of the input.
 #[derive(Clone, Copy)]
-pub struct Session {
-    pub input: Input,
-    pub output: Output,
+pub struct Word<'a> {
+    pub bytes: &'a [u8],
+    ghost short: { length bytes.now ≤ 65536 },
 }
 
-// So many bytes were read; or it failed, and the error says why.
-#[derive(Clone, Copy)]
-enum Got {
-    Bytes(usize),
-    Nothing(io::Error),
-}
-
-// A run in front of its first word. Cost: constant.
-pub fn begin() -> Session
-    ensures { Standing 0 result.input }
-{
-    let input = Input {
-        from: 0,
-        seen: 0,
-        to: 0,
-        line: 1,
-        is_skipping: false,
-        is_ended: false,
-    };
-    let output = Output {
-        waiting: 0,
-        status: 0,
-        is_over: false,
-    };
-    Session { input, output }
-}
-
-// Whether the run is over. Cost: constant.
-pub fn is_over(s: Session) -> bool {
-    let output = s.output;
-    output.is_over
-}
-
-// The status so far. Cost: constant.
-pub fn status_so_far(s: Session) -> u8 {
-    let output = s.output;
-    output.status
-}
-
-// The greater of two statuses: a failure is told before a no. Cost: constant.
-fn worse(one: u8, other: u8) -> u8 {
-    if one < other { other } else { one }
-}
-
-// So many bytes wait after a word with this status. Cost: constant.
-pub fn answered(output: Output, waiting: usize, status: u8) -> Output {
-    Output {
-        waiting,
-        status: worse(output.status, status),
-        is_over: output.is_over,
+impl<'a> Answers<'a> {
+    // So many bytes wait after a word with this status; a failure is told before a no. Cost: constant.
+    pub fn answered(&mut self, waiting: usize, status: Status) {
+        self.waiting = waiting;
+        self.status = self.status.max(status);
     }
-}
 
-// A word that could not be judged; the run goes on. Cost: constant.
-pub fn not_judged(output: Output) -> Output {
-    Output {
-        waiting: output.waiting,
-        status: FAILED,
-        is_over: output.is_over,
+    // A word could not be judged; the run goes on. Cost: constant.
+    pub fn not_judged(&mut self) {
+        self.status = Status::Failed;
     }
-}
 
-// The run ends with a failure. Cost: constant.
-pub fn failed() -> Output {
-    Output {
-        waiting: 0,
-        status: FAILED,
-        is_over: true,
+    // The run ends with a failure. Cost: constant.
+    fn fail(&mut self) {
+        self.status = Status::Failed;
+        self.end();
     }
-}
 
-// Writes what waits; where that fails it is told, and the run is over. Cost: one pass over what waits.
-pub fn flush(console: &Console, out: &[u8], output: Output) -> Output {
-    let n = output.waiting;
-    if n > out.len() {
-        return failed();
+    // The run is over; the status stays. Cost: constant.
+    fn end(&mut self) {
+        self.waiting = 0;
+        self.is_over = true;
     }
-    if !write_out(console, &out[0..n]) {
-        return failed();
-    }
-    Output {
-        waiting: 0,
-        status: output.status,
-        is_over: output.is_over,
-    }
-}
 
-// Makes room for a further line. Cost: constant, or that of `flush`.
-pub fn make_room(console: &Console, out: &[u8], output: Output) -> Output {
-    let n = output.waiting;
-    if n <= out.len() && out.len() - n >= LONGEST_LINE {
-        return output;
+    // Writes what waits; where that fails it is told, and the run is over. Cost: one pass over what waits.
+    pub fn flush(&mut self, console: &Console) {
+        let n = self.waiting;
+        let is_written = match self.out.get(..n) {
+            Some(waiting) => write_out(console, waiting),
+            None => false,
+        };
+        if is_written {
+            self.waiting = 0;
+        } else {
+            self.fail();
+        }
     }
-    flush(console, out, output)
+
+    // Makes room for a further line. Cost: constant, or that of `flush`.
+    pub fn make_room(&mut self, console: &Console) {
+        if self.out.len().saturating_sub(self.waiting) < LONGEST_LINE {
+            self.flush(console);
+        }
+    }
 }
 
 // The place of the first line feed from a place on, or the end where there is none. Cost: the bytes up to it.
@@ -144,50 +93,12 @@ pub fn line_feed(text: &[u8], from: usize, to: usize) -> usize
     requires { (from ≤ to) × (to ≤ length text.now) }
     ensures { FirstFeed text.now from to result }
 {
-    let mut i = from;
-    while i < to {
+    for i in from..to {
         if text[i] == b'\n' {
             return i;
         }
-        i += 1;
     }
-    i
-}
-
-// The number of the next line. Cost: constant.
-fn next_line(line: u64) -> u64 {
-    if line < u64::MAX { line + 1 } else { line }
-}
-
-// The word whose line feed stands at a place is passed. Cost: constant.
-pub fn pass(input: Input, feed: usize) -> Input
-    requires { feed < input.to }
-    ensures { (result.from ≤ result.seen) × ((result.seen ≤ result.to) × (result.to ≡ input.to)) }
-{
-    Input {
-        from: feed + 1,
-        seen: feed + 1,
-        to: input.to,
-        line: next_line(input.line),
-        is_skipping: false,
-        is_ended: input.is_ended,
-    }
-}
-
-// The same places, with a run that goes on or is over. Cost: constant.
-fn standing_at(input: Input, output: Output) -> Session
-    ensures { (result.input.from ≡ input.from) × ((result.input.seen ≡ input.seen) × (result.input.to ≡ input.to)) }
-{
-    Session { input, output }
-}
-
-// The run is over; the status stays. Cost: constant.
-fn over(output: Output) -> Output {
-    Output {
-        waiting: 0,
-        status: output.status,
-        is_over: true,
-    }
+    to
 }
 
 // Moves the bytes between two places to the front. Cost: one pass over them.
@@ -195,148 +106,173 @@ fn move_to_front(text: &mut [u8], from: usize, to: usize)
     requires { (from ≤ to) × (to ≤ length text.old) }
     ensures { MovedFront from to text.old text.new }
 {
-    let mut i: usize = 0;
-    while i < to - from {
-        text[i] = text[from + i];
-        i += 1;
-    }
-}
-
-// Reads what there is of standard input, as far as there is room. Cost: one read.
-fn read_some(console: &Console, buffer: &mut [u8]) -> Got
-    ensures { GotTo buffer.new result }
-{
-    match console.rt.stdin().read(buffer) {
-        Ok(n) => Got::Bytes(n),
-        Err(error) => Got::Nothing(error),
-    }
+    text.copy_within(from..to, 0);
 }
 
 // Tells that a word has more bytes than there is room for. Cost: the text.
 fn tell_long(console: &Console, line: u64) {
-    say(console, 2, b"line ");
-    say_number(console, 2, line);
+    say(console, Stream::Err, b"line ");
+    say_number(console, Stream::Err, line);
     say(
         console,
-        2,
+        Stream::Err,
         b": a word of more than 65535 bytes is not judged\n",
     );
 }
 
-// So many bytes stand at the front, and none of them is a line feed. Cost: constant.
-fn unread(input: Input, to: usize, seen: usize, is_ended: bool) -> Input
-    requires { seen ≤ to }
-    ensures { (result.from ≡ 0) × ((result.seen ≡ seen) × (result.to ≡ to)) }
-{
-    Input {
-        from: 0,
-        seen,
-        to,
-        line: input.line,
-        is_skipping: input.is_skipping,
-        is_ended,
+impl Input {
+    // A run in front of its first word. Cost: constant.
+    pub fn begin() -> Input
+        ensures { Standing 0 result }
+    {
+        Input {
+            from: 0,
+            seen: 0,
+            to: 0,
+            line: 1,
+            is_skipping: false,
+            is_ended: false,
+        }
     }
-}
 
-// The word fills the buffer: that is told, and its rest is skipped. Cost: the text.
-fn skip(console: &Console, input: Input, output: Output) -> Session
-    ensures { Standing 0 result.input }
-{
-    tell_long(console, input.line);
-    let skipping = Input {
-        from: 0,
-        seen: 0,
-        to: 0,
-        line: input.line,
-        is_skipping: true,
-        is_ended: input.is_ended,
-    };
-    let told = not_judged(output);
-    Session {
-        input: skipping,
-        output: told,
+    // The word whose line feed stands at a place is passed. Cost: constant.
+    pub fn pass(&mut self, feed: usize)
+        requires { feed < self.old.to }
+        ensures { (self.new.from ≤ self.new.seen) × ((self.new.seen ≤ self.new.to) × (self.new.to ≡ self.old.to)) }
+    {
+        self.from = feed + 1;
+        self.seen = feed + 1;
+        self.line = self.line.saturating_add(1);
+        self.is_skipping = false;
     }
-}
 
-// The input ends behind the first n bytes. Where a word stands there it gets the line feed that it lacks. Cost: constant.
-fn end(text: &mut [u8], n: usize, input: Input, output: Output) -> Session
-    requires { n < length text.old }
-    ensures { Standing (length text.new) result.input }
-{
-    if n == 0 {
-        return standing_at(unread(input, 0, 0, true), over(output));
+    // So many bytes stand at the front, and none of those in front of `seen` is a line feed. Cost: constant.
+    fn stand(&mut self, seen: usize, to: usize)
+        requires { seen ≤ to }
+        ensures { (self.new.from ≡ 0) × ((self.new.seen ≡ seen) × (self.new.to ≡ to)) }
+    {
+        self.from = 0;
+        self.seen = seen;
+        self.to = to;
     }
-    text[n] = b'\n';
-    standing_at(unread(input, n + 1, n, true), output)
-}
 
-// Reads more of the input behind the first n bytes of the buffer. Cost: one read.
-fn read_behind(
-    console: &Console,
-    text: &mut [u8],
-    n: usize,
-    input: Input,
-    output: Output,
-) -> Session
-    requires { n < length text.old }
-    ensures { Standing (length text.new) result.input }
-{
-    match read_some(console, &mut text[n..]) {
-        Got::Bytes(k) => {
-            if k == 0 {
-                return end(text, n, input, output);
+    // The input ends behind the first n bytes. Where a word stands there it gets the line feed that it lacks. Cost: constant.
+    fn end<'a>(&mut self, text: &mut [u8], n: usize, answers: &mut Answers<'a>)
+        requires { n < length text.old }
+        ensures { Standing (length text.new) self.new }
+    {
+        self.is_ended = true;
+        if n == 0 {
+            self.stand(0, 0);
+            answers.end();
+            return;
+        }
+        text[n] = b'\n';
+        self.stand(n, n + 1);
+    }
+
+    // Reads more of the input behind the first n bytes of the buffer. Cost: one read.
+    fn read_behind<'a>(
+        &mut self,
+        console: &Console,
+        text: &mut [u8],
+        n: usize,
+        answers: &mut Answers<'a>,
+    )
+        requires { n < length text.old }
+        ensures { Standing (length text.new) self.new }
+    {
+        match console.rt.stdin().read(&mut text[n..]) {
+            Ok(0) => self.end(text, n, answers),
+            Ok(k) => self.stand(n, n + k),
+            Err(error) => {
+                fail(console, b"standard input", &error);
+                answers.fail();
+                self.is_ended = true;
+                self.stand(n, n);
             }
-            standing_at(unread(input, n + k, n, false), output)
-        }
-        Got::Nothing(error) => {
-            fail(console, b"standard input", &error);
-            standing_at(unread(input, n, n, true), failed())
         }
     }
-}
 
-// Where the bytes begin that are still needed. Cost: constant.
-fn first_needed(input: Input) -> usize
-    requires { input.from ≤ input.to }
-    ensures { result ≤ input.to }
-{
-    if input.is_skipping {
-        input.to
-    } else {
-        input.from
+    // Where the bytes begin that are still needed. Cost: constant.
+    fn first_needed(&self) -> usize
+        requires { self.now.from ≤ self.now.to }
+        ensures { result ≤ self.now.to }
+    {
+        if self.is_skipping { self.to } else { self.from }
+    }
+
+    // Reads more of the input, behind the word that stands in the buffer without its line feed. A word that fills the buffer is told, and its
+    // rest is skipped. Cost: one pass over that word, and one read.
+    fn read_more<'a>(&mut self, console: &Console, text: &mut [u8], answers: &mut Answers<'a>)
+        requires { Standing (length text.old) self.old }
+        ensures { Standing (length text.new) self.new }
+    {
+        let from = self.first_needed();
+        let n = self.to - from;
+        move_to_front(text, from, self.to);
+        if n < text.len() {
+            self.read_behind(console, text, n, answers);
+            return;
+        }
+        tell_long(console, self.line);
+        answers.not_judged();
+        self.is_skipping = true;
+        self.stand(0, 0);
+    }
+
+    // No line feed stands in the bytes that were read: what waits in the output is written, and more of the input is read, or the run is
+    // over. Cost: that of `flush`, and one read.
+    pub fn refill<'a>(&mut self, console: &Console, text: &mut [u8], answers: &mut Answers<'a>)
+        requires { Standing (length text.old) self.old }
+        ensures { Standing (length text.new) self.new }
+    {
+        answers.flush(console);
+        if self.is_ended || answers.is_over {
+            answers.end();
+            return;
+        }
+        self.read_more(console, text, answers);
     }
 }
 
-// Reads more of the input, behind the word that stands in the buffer without its line feed. Cost: one pass over that word, and one read.
-fn read_more(console: &Console, text: &mut [u8], input: Input, output: Output) -> Session
-    requires { Standing (length text.old) input }
-    ensures { Standing (length text.new) result.input }
-{
-    let from = first_needed(input);
-    let to = input.to;
-    move_to_front(text, from, to);
-    let n = to - from;
-    if n >= text.len() {
-        return skip(console, input, output);
-    }
-    read_behind(console, text, n, input, output)
-}
-
-// No line feed stands in the bytes that were read: what waits in the output is written, and more of the input is read, or the run is over.
-// Cost: that of `flush`, and one read.
-pub fn refill(
+// Judges the words of standard input, one after the other: each is handed to `judge`, which tells its answer. Answers the status. A word that
+// does not fit `text` is told on standard error, and is not judged; `out` has room for what waits and for the longest line.
+// Cost: that of judging, one pass over the input, and one over what is written.
+pub fn each_line<F: FnMut(Word<'_>, &mut Answers<'_>)>(
     console: &Console,
     text: &mut [u8],
-    out: &[u8],
-    input: Input,
-    output: Output,
-) -> Session
-    requires { Standing (length text.old) input }
-    ensures { Standing (length text.new) result.input }
+    out: &mut [u8],
+    mut judge: F,
+) -> Status
+    requires callable { F.IsAlwaysCallable judge }
+    requires room { length text.old ≤ 65536 }
 {
-    let written = flush(console, out, output);
-    if input.is_ended || written.is_over {
-        return standing_at(input, over(written));
+    let mut input = Input::begin();
+    let mut answers = Answers {
+        out,
+        waiting: 0,
+        status: Status::Yes,
+        is_over: false,
+    };
+    for _turns in 0..u64::MAX {
+        if answers.is_over {
+            break;
+        }
+        let feed = line_feed(text, input.seen, input.to);
+        if feed < input.to {
+            let from = input.from;
+            let is_skipped = input.is_skipping;
+            input.pass(feed);
+            if !is_skipped {
+                let word = Word {
+                    bytes: &text[from..feed],
+                };
+                judge(word, &mut answers);
+            }
+        } else {
+            input.refill(console, text, &mut answers);
+        }
     }
-    read_more(console, text, input, written)
+    answers.status
 }

@@ -7,6 +7,6 @@ use std::process::ExitCode;
 // The status is not told: the front `mlb` tells it. Cost: that of `run_check::run`.
 fn main(rt: HostRuntime) -> ExitCode {
     let console = Console::new(rt);
-    run_check::run(&console, 0);
+    run_check::run(&console);
     console.last_status()
 }

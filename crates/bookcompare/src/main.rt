@@ -8,6 +8,6 @@ use std::process::ExitCode;
 // The status is not told: the front `mlb` tells it. Cost: that of `run_compare::run`.
 fn main(rt: HostRuntime) -> ExitCode {
     let console = Console::new(rt);
-    run_compare::run(&console, 0);
+    run_compare::run(&console);
     console.last_status()
 }

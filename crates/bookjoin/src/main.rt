@@ -8,6 +8,6 @@ use std::process::ExitCode;
 // The status is not told: the front `mlb` tells it. Cost: that of `run_join::run`.
 fn main(rt: HostRuntime) -> ExitCode {
     let console = Console::new(rt);
-    run_join::run(&console, 0);
+    run_join::run(&console);
     console.last_status()
 }

@@ -8,6 +8,6 @@ use std::process::ExitCode;
 // The status is not told: the front `mlb` tells it. Cost: that of `run_ranges::run`.
 fn main(rt: HostRuntime) -> ExitCode {
     let console = Console::new(rt);
-    run_ranges::run(&console, 0);
+    run_ranges::run(&console);
     console.last_status()
 }

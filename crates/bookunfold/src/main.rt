@@ -7,6 +7,6 @@ use std::process::ExitCode;
 // The status is not told: the front `mlb` tells it. Cost: that of `run_unfold::run`.
 fn main(rt: HostRuntime) -> ExitCode {
     let console = Console::new(rt);
-    run_unfold::run(&console, 0);
+    run_unfold::run(&console);
     console.last_status()
 }

@@ -7,117 +7,130 @@
 
 ghost use Rattle.std.specs.Prelude.{◌<◌, ◌≤◌, length};
 
-use book_console::console::Console;
+use book_console::console::{Console, Stream};
 use book_console::files::read_full;
 use book_console::words::write_out;
-use file_writing::Written;
 use std::process::ExitCode;
 
-// What a record begins with: its operation, the lengths of its first and its second bytes, how many working words and how many bytes of
-// output or of a word it lends, and how many letters the words have that are to be counted.
+// What a record asks for: a file read, a word judged, two files joined or one closed, a file unfolded, two compared, the words of a length
+// counted, and a word with ranges judged.
+#[derive(Clone, Copy, PartialEq, Eq, Debug)]
+enum Operation {
+    Read,
+    Accept,
+    Union,
+    Concatenate,
+    Intersect,
+    Close,
+    Unfold,
+    Compare,
+    Count,
+    Ranges,
+}
+
+// A byte that stands for no operation.
+#[derive(Clone, Copy, PartialEq, Eq, Debug)]
+struct Unknown(u8);
+
+impl TryFrom<u8> for Operation {
+    type Error = Unknown;
+
+    fn try_from(byte: u8) -> Result<Operation, Unknown> {
+        match byte {
+            1 => Ok(Operation::Read),
+            2 => Ok(Operation::Accept),
+            3 => Ok(Operation::Union),
+            4 => Ok(Operation::Concatenate),
+            5 => Ok(Operation::Intersect),
+            6 => Ok(Operation::Close),
+            7 => Ok(Operation::Unfold),
+            8 => Ok(Operation::Compare),
+            9 => Ok(Operation::Count),
+            10 => Ok(Operation::Ranges),
+            _ => Err(Unknown(byte)),
+        }
+    }
+}
+
+impl Operation {
+    // How many working words an operation lends, by the record's number one. Cost: constant.
+    fn words_lent(self, one: usize) -> usize {
+        match self {
+            Operation::Accept
+            | Operation::Unfold
+            | Operation::Compare
+            | Operation::Count
+            | Operation::Ranges => one,
+            _ => 0,
+        }
+    }
+
+    // How many bytes of output or of a word an operation lends, by the record's two numbers. Cost: constant.
+    fn bytes_lent(self, one: usize, two: usize) -> usize {
+        match self {
+            Operation::Union | Operation::Concatenate | Operation::Intersect | Operation::Close =>
+                one,
+            Operation::Unfold | Operation::Compare => two,
+            _ => 0,
+        }
+    }
+}
+
+// What a record begins with: its operation, if it is one, the lengths of its first and its second bytes, and its two numbers.
 #[derive(Clone, Copy)]
 struct Head {
-    operation: u8,
+    operation: Result<Operation, Unknown>,
     first: usize,
     second: usize,
-    words: usize,
-    bytes: usize,
-    letters: usize,
+    one: usize,
+    two: usize,
 }
 
-// The next record, up to its bytes; or that the input ends before or inside that.
-#[derive(Clone, Copy)]
-enum Record {
-    Begins(Head),
-    Ends,
-}
-
-// A byte as a number. Cost: constant.
-fn wide(x: u8) -> usize
-    ensures { result < 256 }
-{
-    x as usize
+// As long as the longest file, word, working memory and output of the cases; `line` holds that output in hexadecimal.
+#[derive(Drop)]
+struct Buffers {
+    first: [u8; 41293],
+    second: [u8; 41293],
+    work: [u64; 8300],
+    out: [u8; 60000],
+    line: [u8; 120016],
 }
 
 // The number of the four bytes at a place of a record's head, low byte first. Cost: constant.
 fn number(head: &[u8; 17], at: usize) -> usize
     requires { at < 14 }
 {
-    wide(head[at])
-        + 256 * wide(head[at + 1])
-        + 65536 * wide(head[at + 2])
-        + 16777216 * wide(head[at + 3])
+    u32::from_le_bytes([head[at], head[at + 1], head[at + 2], head[at + 3]]) as usize
 }
 
-// How many working words an operation lends, by the record's number one. Cost: constant.
-fn words_lent(operation: u8, one: usize) -> usize {
-    match operation {
-        2 | 7..=10 => one,
-        _ => 0,
-    }
-}
-
-// How many bytes of output or of a word an operation lends, by the record's two numbers. Cost: constant.
-fn bytes_lent(operation: u8, one: usize, two: usize) -> usize {
-    match operation {
-        3..=6 => one,
-        7 | 8 => two,
-        _ => 0,
-    }
-}
-
-// Reads what the next record begins with. Cost: one read of 17 bytes.
-fn next_record(console: &Console) -> Record {
+// Reads what the next record begins with; nothing where the input ends before or inside that. Cost: one read of 17 bytes.
+fn next_head(console: &Console) -> Option<Head> {
     let mut head = [0u8; 17];
     if read_full(&mut console.rt.stdin(), &mut head) < 17 {
-        return Record::Ends;
+        return None;
     }
-    let operation = head[0];
-    let first = number(&head, 1);
-    let second = number(&head, 5);
-    let one = number(&head, 9);
-    let two = number(&head, 13);
-    Record::Begins(Head {
-        operation,
-        first,
-        second,
-        words: words_lent(operation, one),
-        bytes: bytes_lent(operation, one, two),
-        letters: two,
+    Some(Head {
+        operation: Operation::try_from(head[0]),
+        first: number(&head, 1),
+        second: number(&head, 5),
+        one: number(&head, 9),
+        two: number(&head, 13),
     })
 }
 
-// Reads n bytes to the front of `buffer`, and answers whether they were there and had room. Cost: one pass over them.
-fn fill(console: &Console, buffer: &mut [u8], n: usize) -> bool {
-    if buffer.len() < n {
-        return false;
+// Reads n bytes to the front of `buffer`, and answers them, if they were there and had room. Cost: one pass over them.
+fn fill<'a>(console: &Console, buffer: &'a mut [u8], n: usize) -> Option<&'a [u8]> {
+    let front = buffer.get_mut(..n)?;
+    if read_full(&mut console.rt.stdin(), front) < n {
+        return None;
     }
-    read_full(&mut console.rt.stdin(), &mut buffer[0..n]) == n
+    Some(front)
 }
 
-// Joins or unfolds, on exactly what a record lends; where the operation is neither, that is a refusal with no number.
-// Cost: that of the call.
-fn written(
-    operation: u8,
-    first: &[u8],
-    second: &[u8],
-    work: &mut [u64],
-    out: &mut [u8],
-) -> Written {
-    match operation {
-        3 => join::union(first, second, out),
-        4 => join::concatenate(first, second, out),
-        5 => join::intersect(first, second, out),
-        6 => join::close(first, out),
-        7 => unfold::unfold(first, work, out),
-        _ => Written::Refused(0, 0),
-    }
-}
-
-// Writes the line of one operation on exactly what its record lends, and answers its length; 0 where there is no such operation. Only
-// counting looks at `letters`. Cost: that of the call, and the line.
+// Writes the line of one operation on exactly what its record lends, and answers its length. Only counting looks at `letters`.
+// Cost: that of the call, and the line.
 fn answer(
-    operation: u8,
+    operation: Operation,
     letters: usize,
     first: &[u8],
     second: &[u8],
@@ -128,100 +141,70 @@ fn answer(
     ensures { result ≤ length line.new }
 {
     match operation {
-        1 => line_answers::reading_line(format::read(first), line),
-        2 => line_answers::membership_line(table::accepts(first, second, work), line),
-        3..=7 => {
-            line_answers::written_line(written(operation, first, second, work, out), out, line)
+        Operation::Read => line_answers::reading_line(format::read(first), line),
+        Operation::Accept => {
+            line_answers::membership_line(table::accepts(first, second, work), line)
         }
-        8 => line_comparison::case_line(compare::compare(first, second, work, out), out, line),
-        9 => line_counts::word_count_line(count::count_words(first, letters as u64, work), line),
-        10 => line_ranges::ranged_line(ranges::accepts_ranges(first, second, work), line),
-        _ => 0,
+        Operation::Union => line_answers::written_line(join::union(first, second, out), out, line),
+        Operation::Concatenate => {
+            line_answers::written_line(join::concatenate(first, second, out), out, line)
+        }
+        Operation::Intersect => {
+            line_answers::written_line(join::intersect(first, second, out), out, line)
+        }
+        Operation::Close => line_answers::written_line(join::close(first, out), out, line),
+        Operation::Unfold => {
+            line_answers::written_line(unfold::unfold(first, work, out), out, line)
+        }
+        Operation::Compare => {
+            line_comparison::case_line(compare::compare(first, second, work, out), out, line)
+        }
+        Operation::Count => {
+            line_counts::word_count_line(count::count_words(first, letters as u64, work), line)
+        }
+        Operation::Ranges => {
+            line_ranges::ranged_line(ranges::accepts_ranges(first, second, work), line)
+        }
     }
 }
 
-// Prints a line, where there is one, and answers whether the run goes on. Cost: the line.
-fn print(console: &Console, line: &[u8]) -> bool {
-    if line.len() == 0 {
-        let _ = console.write(1, b"unknown\n");
-        return false;
-    }
-    write_out(console, line)
-}
-
-// Answers a record on exactly what it lends of the buffers, and prints the line. False ends the run: where a buffer is shorter, there is
-// no such operation, or the line cannot be written. Cost: that of the call, and the line.
-fn lend(
-    console: &Console,
-    head: Head,
-    first: &[u8],
-    second: &[u8],
-    work: &mut [u64],
-    out: &mut [u8],
-    line: &mut [u8],
-) -> bool {
-    let a = head.first;
-    let b = head.second;
-    let words = head.words;
-    let bytes = head.bytes;
-    if first.len() < a || second.len() < b || work.len() < words || out.len() < bytes {
-        return false;
-    }
-    let n = answer(
-        head.operation,
-        head.letters,
-        &first[0..a],
-        &second[0..b],
-        &mut work[0..words],
-        &mut out[0..bytes],
-        line,
-    );
-    print(console, &line[0..n])
-}
-
-// Reads one record and answers it; false ends the run. The buffers are lent as arrays: an array's length asks no proof.
-// Cost: one pass over the record, and that of `lend`.
-fn turn(
-    console: &Console,
-    first: &mut [u8; 41293],
-    second: &mut [u8; 41293],
-    work: &mut [u64; 8300],
-    out: &mut [u8; 60000],
-    line: &mut [u8; 120016],
-) -> bool {
-    let Record::Begins(head) = next_record(console) else {
-        return false;
+// Reads one record, answers it on exactly what it lends of the buffers, and prints the line. Nothing is answered where the run ends: where
+// the input does, a buffer is shorter, there is no such operation, or the line cannot be written. Cost: one pass over the record, that of
+// the call, and the line.
+fn turn(console: &Console, buffers: &mut Buffers) -> Option<()> {
+    let head = next_head(console)?;
+    let first = fill(console, &mut buffers.first, head.first)?;
+    let second = fill(console, &mut buffers.second, head.second)?;
+    let Ok(operation) = head.operation else {
+        let _ = console.write(Stream::Out, b"unknown\n");
+        return None;
     };
-    if !fill(console, first, head.first) {
-        return false;
+    let work = buffers.work.get_mut(..operation.words_lent(head.one))?;
+    let out = buffers
+        .out
+        .get_mut(..operation.bytes_lent(head.one, head.two))?;
+    let line = &mut buffers.line;
+    let n = answer(operation, head.two, first, second, work, out, line);
+    if !write_out(console, &line[0..n]) {
+        return None;
     }
-    if !fill(console, second, head.second) {
-        return false;
-    }
-    lend(console, head, first, second, work, out, line)
+    Some(())
 }
 
-// The buffers are as long as the longest file, word, working memory and output of the cases; `line` holds that output
-// in hexadecimal. Cost: that of `turn` for each record.
+// Answers the records of the input. Cost: that of `turn` for each record.
 fn main(rt: HostRuntime) -> ExitCode {
     let console = Console::new(rt);
-    let mut first = [0u8; 41293];
-    let mut second = [0u8; 41293];
-    let mut work = [0u64; 8300];
-    let mut out = [0u8; 60000];
-    let mut line = [0u8; 120016];
-    let mut turns = u64::MAX;
-    while turns > 0
-        && turn(
-            &console,
-            &mut first,
-            &mut second,
-            &mut work,
-            &mut out,
-            &mut line,
-        )
-    {
-        turns -= 1;
+    let mut buffers = Buffers {
+        first: [0; 41293],
+        second: [0; 41293],
+        work: [0; 8300],
+        out: [0; 60000],
+        line: [0; 120016],
+    };
+    for _ in 0..u64::MAX {
+        if turn(&console, &mut buffers).is_none() {
+            break;
+        }
     }
     console.last_status()
 }

@@ -1,4 +1,5 @@
 -- DecidingLaws: the table of pairs that searching leaves is the definition's, its first difference is the verdict's, and so the answer is right.
+use Rattle.std.proofs.Common.{None, Option as RustOption}
 use mathlib.Core.Path.{◌∙◌, ◌≡◌, ap, ap₂, refl, subst, sym}
 use mathlib.Core.Bool.{Bool, cond, false, not, true}
 use mathlib.Core.List.{List, ◌++◌, map}
@@ -12,21 +13,21 @@ use Rattle.automata.specs.Live.{meets}
 use Rattle.automata.specs.Pairs.{Pair, answers_pass, differ, different, first_accepts, first_passing, judged, onward, pair_of, pairs, same_pair, second_accepts, shown, taker_of, verdict}
 use Rattle.automata.specs.Search.{Entry, entries, first_of}
 use Rattle.automata.specs.Unfolding.{configurations, final_set, live_set, plain_arcs}
-use Rattle.automata.proofs.Laws.{First, at, first_of-first, get_elem?-lt, get_elem?-some, nowhere, same-many, shown-many}
+use Rattle.automata.proofs.Laws.{First, at, first_of-first, get_elem?-some, nowhere, same-many, shown-many}
 use Rattle.word_layout.specs.declared.SetTable.{SetTable}
 use Rattle.live_table.specs.Entries.{Holds, Side, Tree, along, begin, side_of}
-use Rattle.live_table.specs.declared.Grown.{Grown}
 use Rattle.live_letters.specs.Meeting.{Outcome}
 use Rattle.compare_search.specs.Searching.{Both}
 use Rattle.word_sets.specs.Sets.{view}
 use Rattle.compare_witness.specs.Spelled.{alone, differs_by, taker_by, word_of}
 use Rattle.compare_witness.proofs.Laws.{Judges, judge_entry, spelled-word}
 use Rattle.table_sets.specs.Stepping.{Tells}
-use Rattle.compare_promise.specs.Comparing.{count_refusals}
+use Rattle.file_fields.specs.declared.Reason.TheVariants.{TooManyLiveSets}
+use Rattle.compare_promise.specs.Comparing.{count_refusals, refused}
 use Rattle.compare.specs.Answers.{Answers}
 use Rattle.compare.specs.Loading.{Comparable}
 use Rattle.compare.specs.declared.loading.Standing.{Standing}
-use Rattle.compare_promise.specs.declared.Comparison.TheVariants.{Different, Refused, Same}
+use Rattle.compare_promise.specs.declared.Comparison.TheVariants.{Different, Same}
 use Rattle.compare.proofs.Verdicts.{answers-different, answers-many, answers-same}
 
 abbrev one_two : Bool → ℕ
@@ -81,7 +82,7 @@ module _ {x y : Automaton} {L : ℕ} {w₀ : List ℕ} {one two : Standing} {byt
   }
 
   -- what searching leaves
-  pub outcome : (tab : SetTable) (w : List ℕ) (r : Grown) → ((s t : Side) → Both (length bytes) s t w₀ one.block two.block → Outcome P tab s t w (entries same_pair (along s t) (length bytes) (begin s t) P) r) → Outcome P tab s t w es r
+  pub outcome : (tab : SetTable) (w : List ℕ) (r : RustOption ℕ) → ((s t : Side) → Both (length bytes) s t w₀ one.block two.block → Outcome P tab s t w (entries same_pair (along s t) (length bytes) (begin s t) P) r) → Outcome P tab s t w es r
   outcome tab w r h = subst (λ (a : ℕ). Outcome P tab s t w (entries same_pair (along s t) a (begin s t) P) r) many-letters (h s t both)
 
   -- ---- the definition's pairs
@@ -116,26 +117,24 @@ module _ {x y : Automaton} {L : ℕ} {w₀ : List ℕ} {one two : Standing} {byt
       ∙ ap (λ (h : Entry Pair → Bool). first_of h es) (λ i e. (sym (differs_is e.state)) i)
 
   -- ---- the answers
-  pub answer-many : (old : List ℕ) → P < length es → Answers L P (count_refusals L P x y) x y old old (Refused 23 0)
+  pub answer-many : (old : List ℕ) → P < length es → Answers L P (count_refusals L P x y) x y old old (refused TooManyLiveSets None)
   answer-many old h = answers-many x y L P old (omega (arith, pairs-many))
 
-  -- the table has n pairs, and the first that differs is pair i
-  module _ {tab : SetTable} {w : List ℕ} {n : ℕ} (h : Holds tab s t w n es) (most : n ≤ P) (i : ℕ) (found : first_of (λ (e : Entry Pair). differs_by F G e.state) es ≡ get_elem? es i) where
+  -- the table has n pairs
+  module _ {tab : SetTable} {w : List ℕ} {n : ℕ} (h : Holds tab s t w n es) (most : n ≤ P) where
     few : length (pairs x y L P) ≤ P
     few = omega (arith, pairs-many, h.many)
 
-    pub answer-same : (old : List ℕ) → i ≡ n → Answers L P (count_refusals L P x y) x y old old (Same n)
+    -- none of them differs
+    pub answer-same : (old : List ℕ) → first_of (λ (e : Entry Pair). differs_by F G e.state) es ≡ none → Answers L P (count_refusals L P x y) x y old old (Same n)
     unfolding verdict judged
-    answer-same old e = answers-same x y L P old n few (ap₂ (judged x y L) (pairs-many ∙ h.many) (difference_is ∙ found ∙ nothing (get_elem? es i) refl))
-      where
-        nothing : (o : Option (Entry Pair)) → get_elem? es i ≡ o → o ≡ none
-        nothing none z = refl
-        nothing (some u) z = absurd (omega (arith, get_elem?-lt es i z, h.many))
+    answer-same old found = answers-same x y L P old n few (ap₂ (judged x y L) (pairs-many ∙ h.many) (difference_is ∙ found))
 
-    pub answer-different : (a : ℕ) (old new : List ℕ) (taker size : ℕ) → i < n → Tree a tab w n → Judges tab w i one.finals two.finals taker → size ≡ length (word_of tab w i)
+    -- the first that differs is pair i
+    pub answer-different : (i : ℕ) → first_of (λ (e : Entry Pair). differs_by F G e.state) es ≡ get_elem? es i → (a : ℕ) (old new : List ℕ) (taker size : ℕ) → i < n → Tree a tab w n → Judges tab w i one.finals two.finals taker → size ≡ length (word_of tab w i)
         → new ≡ map (λ (l : ℕ). get_or bytes l 0) (word_of tab w i) ++ drop size old → Answers L P (count_refusals L P x y) x y old new (Different n taker size)
     unfolding verdict judged
-    answer-different a old new taker size low tree told long put =
+    answer-different i found a old new taker size low tree told long put =
         answers-different x y L P old new n taker size (word_of tab w i) few is long
         (put ∙ ap (λ (b : List ℕ). map (λ (l : ℕ). get_or b l 0) (word_of tab w i) ++ drop size old) c.spelled)
       where

@@ -6,19 +6,21 @@ use borrow.Author.Tests.{le-ltb, lt-ltb}
 use lib.ListN.{drop, get_or, length, length-map}
 use Rattle.automata.specs.Automaton.{Automaton}
 use Rattle.automata.specs.Pairs.{Verdict, different, pairs, same, verdict}
+use Rattle.std.specs.Prelude.{None}
+use Rattle.file_fields.specs.declared.Reason.TheVariants.{TooManyLiveSets}
 use Rattle.format.specs.Refusals.{unless_refused}
 use Rattle.compare.specs.Answers.{Answers}
-use Rattle.compare_promise.specs.Comparing.{answer_of, buffer_of, bytes_in, count_refusals}
-use Rattle.compare_promise.specs.declared.Comparison.TheVariants.{Different, Refused, Same}
+use Rattle.compare_promise.specs.Comparing.{answer_of, buffer_of, bytes_in, count_refusals, refused}
+use Rattle.compare_promise.specs.declared.Comparison.TheVariants.{Different, Same}
 
 module _ (x y : Automaton) (L P : ℕ) where
   -- there are too many pairs
-  pub answers-many : (old : List ℕ) → P < length (pairs x y L P) → Answers L P (count_refusals L P x y) x y old old (Refused 23 0)
+  pub answers-many : (old : List ℕ) → P < length (pairs x y L P) → Answers L P (count_refusals L P x y) x y old old (refused TooManyLiveSets None)
   unfolding unless_refused count_refusals
   answers-many old h = record { answer = rw (lt-ltb P (length (pairs x y L P)) h); buffer = refl }
 
   -- nothing is refused: the verdict tells the answer
-  told : (v : Verdict) → length (pairs x y L P) ≤ P → verdict x y L P ≡ v → answer_of v ≡ unless_refused Refused (count_refusals L P x y) (answer_of (verdict x y L P))
+  told : (v : Verdict) → length (pairs x y L P) ≤ P → verdict x y L P ≡ v → answer_of v ≡ unless_refused refused (count_refusals L P x y) (answer_of (verdict x y L P))
   unfolding unless_refused count_refusals
   told v h e = rw (le-ltb P (length (pairs x y L P)) h, e)
 

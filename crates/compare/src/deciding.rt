@@ -10,7 +10,7 @@ use super::Comparison;
 use super::loading::Standing;
 use compare_search::{explore_pairs, pair_table};
 use compare_witness::{first_difference, judge_pair, put_word};
-use live_table::Grown;
+use format::Reason;
 
 // All pairs are explored, whether or not one of them differs, and the word of the first that differs is shown in the bytes `letters`.
 // Refuses 23: more than 512 pairs.
@@ -28,17 +28,13 @@ pub fn decide(
 {
     let f = one.finals;
     let g = two.finals;
-    let Grown::Total(n) = explore_pairs(w, letters.len(), one.block, two.block) else {
-        return Comparison::Refused {
-            number: 23,
-            automaton: 0,
-        };
+    let Some(n) = explore_pairs(w, letters.len(), one.block, two.block) else {
+        return Comparison::Refused(Reason::TooManyLiveSets.of_call());
     };
     let t = pair_table();
-    let i = first_difference(w, t, n, f, g);
-    if i == n {
+    let Some(i) = first_difference(w, t, n, f, g) else {
         return Comparison::Same(n as u64);
-    }
+    };
     let taker = judge_pair(w, t, i, f, g);
     let length = put_word(w, t, letters.len(), n, i, letters, word);
     Comparison::Different {

@@ -1,19 +1,18 @@
-// compare: do two automata accept the same words? (document 01, 'Comparing')
+// compare: do two automata accept the same words?
 #![tactic(auto)]
 
 ghost use Rattle.std.specs.Prelude.{◌≡◌, false, true, ◌≤◌, length};
 ghost use Rattle.file_fields.specs.Parts.{counts_of};
 ghost use Rattle.file_pair.specs.Lettered.{Lettered, automaton_over};
-ghost use Rattle.file_pair.specs.Pair.{files_of};
-ghost use Rattle.file_pair.specs.declared.Files.TheVariants.{Valid};
+ghost use Rattle.file_pair.specs.Pair.{both_valid, files_of};
 ghost use Rattle.compare_promise.specs.Comparing.{buffer_of, comparison_of, shown_word, table_refusals};
 ghost use Rattle.compare.specs.Answers.{AnswersAtLimits, AnswersOfFiles};
 
 pub use compare_promise::Comparison;
 use deciding::decide;
-use file_pair::{Files, count_letters, letter_files, read_files};
-use format::Counts;
+use file_pair::{count_letters, letter_files, read_files};
 use format::fields::flags_at;
+use format::{Automaton, Counts, Reason};
 use loading::load;
 use word_layout::{FIRST_BLOCK, SECOND_BLOCK};
 
@@ -35,24 +34,19 @@ fn compare_files(
     ensures same { length w.new ≡ length w.old }
     ensures answers { AnswersAtLimits (table_refusals 256 2048 512) (automaton_over one.now letters.now first.now) (automaton_over two.now letters.now second.now) word.old word.new result }
 {
-    let x = load(first, one, w, FIRST_BLOCK);
-    if x.refusal != 0 {
-        return Comparison::Refused {
-            number: x.refusal,
-            automaton: 1,
-        };
-    }
-    let y = load(second, two, w, SECOND_BLOCK);
-    if y.refusal != 0 {
-        return Comparison::Refused {
-            number: y.refusal,
-            automaton: 2,
-        };
-    }
-    decide(w, x.standing, y.standing, letters, word)
+    let left = load(first, one, w, FIRST_BLOCK);
+    let Ok(x) = left else {
+        return Comparison::Refused(left.unwrap_err().of(Automaton::First));
+    };
+    let right = load(second, two, w, SECOND_BLOCK);
+    let Ok(y) = right else {
+        return Comparison::Refused(right.unwrap_err().of(Automaton::Second));
+    };
+    decide(w, x, y, letters, word)
 }
 
 // Two files whose letter lists agree: no letter gets a new number. Cost: what comparing the files takes.
+// kept: what is lent differs, parts of a file here and of a `Lettering` below; one text over an Option of it asks twice which it is, so it is no plainer
 fn compare_alike(
     first: &[u8],
     a: Counts,
@@ -61,7 +55,7 @@ fn compare_alike(
     w: &mut [u64],
     word: &mut [u8],
 ) -> Comparison
-    requires { (files_of first.now second.now ≡ Valid true a b) × (8192 ≤ length w.old) × (512 ≤ length word.old) }
+    requires { (files_of first.now second.now ≡ both_valid true a b) × (8192 ≤ length w.old) × (512 ≤ length word.old) }
     ensures same { length w.new ≡ length w.old }
     ensures answers { AnswersOfFiles first.now second.now word.old word.new result }
 {
@@ -87,15 +81,12 @@ fn compare_apart(
     w: &mut [u64],
     word: &mut [u8],
 ) -> Comparison
-    requires { (files_of first.now second.now ≡ Valid false a b) × (8192 ≤ length w.old) × (512 ≤ length word.old) }
+    requires { (files_of first.now second.now ≡ both_valid false a b) × (8192 ≤ length w.old) × (512 ≤ length word.old) }
     ensures same { length w.new ≡ length w.old }
     ensures answers { AnswersOfFiles first.now second.now word.old word.new result }
 {
     if 64 < count_letters(false, a, first, b, second) {
-        return Comparison::Refused {
-            number: 11,
-            automaton: 0,
-        };
+        return Comparison::Refused(Reason::JoinedBeyondALimit.of_call());
     }
     let m = a.letters;
     let n = b.letters;
@@ -131,24 +122,18 @@ pub fn compare(first: &[u8], second: &[u8], work: &mut [u64], word: &mut [u8]) -
     ensures shown { word.new ≡ buffer_of result (shown_word first.now second.now) word.old }
 {
     if work.len() < 8192 {
-        return Comparison::Refused {
-            number: 24,
-            automaton: 0,
-        };
+        return Comparison::Refused(Reason::TooLittleMemoryLent.of_call());
     }
     if word.len() < 512 {
-        return Comparison::Refused {
-            number: 24,
-            automaton: 0,
-        };
+        return Comparison::Refused(Reason::TooLittleMemoryLent.of_call());
     }
     match read_files(first, second) {
-        Files::Fault(number, automaton) => Comparison::Refused { number, automaton },
-        Files::Valid(agree, a, b) => {
-            if agree {
-                compare_alike(first, a, second, b, work, word)
+        Err(refusal) => Comparison::Refused(refusal),
+        Ok(pair) => {
+            if pair.agree {
+                compare_alike(first, pair.first, second, pair.second, work, word)
             } else {
-                compare_apart(first, a, second, b, work, word)
+                compare_apart(first, pair.first, second, pair.second, work, word)
             }
         }
     }

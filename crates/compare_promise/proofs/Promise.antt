@@ -17,12 +17,15 @@ use Rattle.automata.proofs.Laws.{comparing, comparing_more, not-before-long, rea
 use Rattle.relettering.specs.Relettering.{with_letters}
 use Rattle.relettering.proofs.Laws.{configurations-same}
 use Rattle.format.specs.Decoding.{automaton_of}
-use Rattle.format.specs.Refusals.{FirstHolds, fault_of, unless_refused}
-use Rattle.file_laws.proofs.Laws.{NoneHolds, Outcome, at_least, first-exactly, first_some, none_first, refused-or_not}
-use Rattle.compare_promise.specs.Comparing.{answer_of, buffer_of, bytes_in, comparison_of, refusals, shown_word, told, verdict_of}
+use Rattle.format.specs.Refusals.{FirstHolds, Refusals, fault_of, unless_refused}
+use Rattle.file_laws.proofs.Laws.{NoneHolds, Outcome, at_least, first-exactly, first_some, none_first, number-above, refused-or_not}
+use Rattle.compare_promise.specs.Comparing.{answer_of, buffer_of, bytes_in, comparison_of, refusals, refused as refusal, shown_word, told, verdict_of}
 use Rattle.compare_promise.specs.Promised.{Either, Equivalent, Premises, Promised, SameLive, conditions, letters_in, over_all, pair_in}
 use Rattle.compare_promise.specs.declared.Comparison.{Comparison}
-use Rattle.compare_promise.specs.declared.Comparison.TheVariants.{Refused}
+use Rattle.std.specs.Prelude.{Option}
+use Rattle.file_fields.specs.declared.Automaton.{Automaton as Blamed}
+use Rattle.file_fields.specs.declared.Reason.{Reason}
+use Rattle.file_fields.specs.Parts.{automaton_number, number_of}
 use Rattle.compare_promise.proofs.OverLetters.{Either-own, formed₁, formed₂, language₁, language₂, pairs-by_runs, shared-letters}
 use Rattle.compare_promise.proofs.Refusals.{refusals-decide}
 use Rattle.compare_promise.proofs.ShownBytes.{shown_by, shown-first, shown-listed}
@@ -101,9 +104,9 @@ module _ (first second : List ℕ) (words : ℕ) (old new : List ℕ) where
   abbrev cs : List (Type 0 × ℕ × ℕ)
   cs = conditions first second words (length old)
 
-  refused : (n b : ℕ) → 0 < n → FirstHolds cs n b → new ≡ old → Promised first second words old new (told (Refused n b))
-  refused n b pos f unchanged = record {
-    answers = (λ z. absurd (omega arith), λ p. absurd (none p));
+  refused : (why : Reason) (whose : Option Blamed) → FirstHolds cs (number_of why) (automaton_number whose) → new ≡ old → Promised first second words old new (told (refusal why whose))
+  refused why whose f unchanged = record {
+    answers = (λ z. absurd (omega (arith, number-above why)), λ p. absurd (none p));
     same = (λ t. absurd t, λ p. none p.0);
     different = (λ t. absurd t, λ p. none p.0);
     shows = λ t. absurd t;
@@ -119,7 +122,7 @@ module _ (first second : List ℕ) (words : ℕ) (old new : List ℕ) where
   }
     where
       none : ¬ Premises first second words (length old)
-      none p = first_some cs n b pos f (none_of first second words (length old) p)
+      none p = first_some cs (number_of why) (automaton_number whose) (number-above why) f (none_of first second words (length old) p)
 
   abbrev all : List ℕ
   all = letters_in first second
@@ -217,9 +220,9 @@ module _ (first second : List ℕ) (words : ℕ) (old new : List ℕ) where
   -- THE PROMISE of comparing, from the equations of its contract.
   pub comparing_promised : (r : Comparison) → r ≡ comparison_of first second words (length old) → new ≡ buffer_of r (shown_word first second) old → Promised first second words old new (told r)
   unfolding comparison_of shown_word verdict_of
-  comparing_promised r a b = either (refused-or_not Refused answer tests cs (refusals-decide first second words (length old)))
+  comparing_promised r a b = either (refused-or_not refusal answer tests cs (refusals-decide first second words (length old)))
     where
-      tests : List (Bool × ℕ × ℕ)
+      tests : Refusals
       tests = refusals 256 2048 512 first second words (length old)
 
       answer : Comparison
@@ -228,11 +231,11 @@ module _ (first second : List ℕ) (words : ℕ) (old new : List ℕ) where
       left : (c : Comparison) → r ≡ c → new ≡ buffer_of c (shown_word first second) old
       left c e = subst (λ (c : Comparison). new ≡ buffer_of c (shown_word first second) old) e b
 
-      either : Outcome Refused answer cs (unless_refused Refused tests answer) → Promised first second words old new (told r)
+      either : Outcome refusal answer cs (unless_refused refusal tests answer) → Promised first second words old new (told r)
       either (inl h) =
           let e = a ∙ h.1 in
           let p = Premises-of first second words (length old) h.0 in
           subst (λ (c : Comparison). Promised first second words old new (told c)) (sym e) (answered (verdict y₁ y₂ 256 512) (right first second words (length old) p) p (left answer e))
       either (inr h) =
-          let e = a ∙ h.4 in
-          subst (λ (c : Comparison). Promised first second words old new (told c)) (sym e) (refused h.0 h.1 h.2 h.3 (left (Refused h.0 h.1) e))
+          let e = a ∙ h.3 in
+          subst (λ (c : Comparison). Promised first second words old new (told c)) (sym e) (refused h.0 h.1 h.2 (left (refusal h.0 h.1) e))

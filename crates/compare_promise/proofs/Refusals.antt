@@ -19,14 +19,14 @@ tables_decided first second =
     let x = automaton_of first in
     let y = automaton_of second in
     let all = letters_in first second in (
-      rw (configurations-same x (places all x.alphabet) all 256) (reach-decided x 256 21 1 (omega arith)),
+      rw (configurations-same x (places all x.alphabet) all 256) (reach-decided x 256 _ _),
       (
-        rw (plain-many x (places all x.alphabet) all 256) (less-decided 2048 (length (plain_arcs x 256)) 22 1 (omega arith)),
+        rw (plain-many x (places all x.alphabet) all 256) (less-decided 2048 (length (plain_arcs x 256)) _ _),
         (
-          rw (configurations-same y (places all y.alphabet) all 256) (reach-decided y 256 21 2 (omega arith)),
+          rw (configurations-same y (places all y.alphabet) all 256) (reach-decided y 256 _ _),
           (
-            rw (plain-many y (places all y.alphabet) all 256) (less-decided 2048 (length (plain_arcs y 256)) 22 2 (omega arith)),
-            (decided _ 23 0 (iff-trans (less-iff 512 _) (comparing_more (over_all first second first) (over_all first second second) 256 512)) (λ _. omega arith), tt),
+            rw (plain-many y (places all y.alphabet) all 256) (less-decided 2048 (length (plain_arcs y 256)) _ _),
+            (decided _ _ _ (iff-trans (less-iff 512 _) (comparing_more (over_all first second first) (over_all first second second) 256 512)), tt),
           ),
         ),
       ),
@@ -36,6 +36,6 @@ tables_decided first second =
 pub refusals-decide : (first second : List ℕ) (words buffer : ℕ) → Decide (refusals 256 2048 512 first second words buffer) (conditions first second words buffer)
 unfolding refusals
 refusals-decide first second words buffer = (
-  decided _ 24 0 (either_less words 8192 buffer 512) (λ _. omega arith),
-  (fault_decided first 1, (fault_decided second 2, (less-decided 64 (length (letters_in first second)) 11 0 (omega arith), tables_decided first second))),
+  decided _ _ _ (either_less words 8192 buffer 512),
+  (fault_decided first _, (fault_decided second _, (less-decided 64 (length (letters_in first second)) _ _, tables_decided first second))),
 )

@@ -13,8 +13,11 @@ use Rattle.automata.specs.Words.{Language, Spells}
 use Rattle.automata.proofs.Laws.{counting-unique, spelled-one}
 use Rattle.relettering.specs.Relettering.{with_letters}
 use Rattle.format.specs.Decoding.{automaton_of}
-use Rattle.compare_promise.specs.Comparing.{told}
+use Rattle.compare_promise.specs.Comparing.{refused as refusal, told}
 use Rattle.compare_promise.specs.Promised.{Either, Premises, Promised, letters_in, over_all}
+use Rattle.file_fields.specs.declared.Refusal.{Refusal}
+use Rattle.file_fields.specs.Parts.{automaton_number, number_of}
+use Rattle.file_laws.proofs.Laws.{automaton-one, number-one}
 use Rattle.compare_promise.specs.declared.Comparison.{Comparison}
 use Rattle.compare_promise.specs.declared.Comparison.TheVariants.{Different, Refused, Same}
 use Rattle.compare_promise.proofs.OverLetters.{Either-own, formed₁, formed₂, letters_apart, shared-letters}
@@ -52,8 +55,8 @@ module _ (first second : List ℕ) (words : ℕ) (old : List ℕ) where
   y' = over_all first second second
 
   -- a refusal comes where a premise does not hold
-  not-refused : (new : List ℕ) (n b : ℕ) → Keeps new (Refused n b) → ¬ Granted
-  not-refused new n b q p = q.different.1 (p, λ e. q.same.1 (p, e))
+  not-refused : (new : List ℕ) (r : Refusal) → Keeps new (Refused r) → ¬ Granted
+  not-refused new r q p = q.different.1 (p, λ e. q.same.1 (p, e))
 
   -- two that are told different
   module _ (new new' : List ℕ) (n k s n' k' s' : ℕ) (p : Keeps new (Different n k s)) (q : Keeps new' (Different n' k' s')) where
@@ -99,12 +102,12 @@ module _ (first second : List ℕ) (words : ℕ) (old : List ℕ) where
   pub comparing_settled : (r r' : Comparison) (new new' : List ℕ) → Keeps new r → Keeps new' r' → (r ≡ r') × (new ≡ new')
   comparing_settled (Same n) (Same n') new new' p q = let h = p.answers.0 refl in (ap Same (counting-unique (p.counts h) (q.counts h)), p.behind ∙ sym q.behind)
   comparing_settled (Same n) (Different n' k' s') new new' p q = absurd ((q.different.0 tt).1 (p.same.0 tt).1)
-  comparing_settled (Same n) (Refused n' b') new new' p q = absurd (not-refused new' n' b' q (p.answers.0 refl))
+  comparing_settled (Same n) (Refused r') new new' p q = absurd (not-refused new' r' q (p.answers.0 refl))
   comparing_settled (Different n k s) (Same n') new new' p q = absurd ((p.different.0 tt).1 (q.same.0 tt).1)
   comparing_settled (Different n k s) (Different n' k' s') new new' p q = (same_answer new new' n k s n' k' s' p q, same-buffer new new' n k s n' k' s' p q)
-  comparing_settled (Different n k s) (Refused n' b') new new' p q = absurd (not-refused new' n' b' q (p.answers.0 refl))
-  comparing_settled (Refused n b) (Same n') new new' p q = absurd (not-refused new n b p (q.answers.0 refl))
-  comparing_settled (Refused n b) (Different n' k' s') new new' p q = absurd (not-refused new n b p (q.answers.0 refl))
-  comparing_settled (Refused n b) (Refused n' b') new new' p q =
-      let e = (q.refuses n b).1 ((p.refuses n b).0 (refl, refl)) in
-      (ap₂ Refused (sym e.0) (sym e.1), p.behind ∙ sym q.behind)
+  comparing_settled (Different n k s) (Refused r') new new' p q = absurd (not-refused new' r' q (p.answers.0 refl))
+  comparing_settled (Refused r) (Same n') new new' p q = absurd (not-refused new r p (q.answers.0 refl))
+  comparing_settled (Refused r) (Different n' k' s') new new' p q = absurd (not-refused new r p (q.answers.0 refl))
+  comparing_settled (Refused r) (Refused r') new new' p q =
+      let e = (q.refuses (number_of r.reason) (automaton_number r.automaton)).1 ((p.refuses (number_of r.reason) (automaton_number r.automaton)).0 (refl, refl)) in
+      (ap₂ refusal (number-one r.reason r'.reason (sym e.0)) (automaton-one r.automaton r'.automaton (sym e.1)), p.behind ∙ sym q.behind)

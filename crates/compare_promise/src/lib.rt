@@ -1,11 +1,13 @@
-// compare_promise: what comparing answers, and what is promised of it; no function (document 01, 'Comparing').
+// compare_promise: what comparing answers, and what is promised of it; no function.
 // specs/ holds Comparing, what is answered, with which the contract of the call is an equation; Promised, what that means. The call is
 // the crate compare's.
 #![tactic(auto)]
 
+use format::Refusal;
+
 // What comparing answers: the two accept the same words; or they differ, with the automaton that accepts the shown word and that
-// word's length; or the number of a refusal and the automaton at fault. The number of pairs is that of the distinct pairs of live sets.
-#[derive(Clone, Copy)]
+// word's length; or why it refuses. The number of pairs is that of the distinct pairs of live sets.
+#[derive(Clone, Copy, PartialEq, Eq, Debug)]
 pub enum Comparison {
     Same(u64),
     Different {
@@ -13,8 +15,5 @@ pub enum Comparison {
         taker: u8,
         length: usize,
     },
-    Refused {
-        number: u8,
-        automaton: u8,
-    },
+    Refused(Refusal),
 }

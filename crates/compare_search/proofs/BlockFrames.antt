@@ -1,7 +1,7 @@
 -- BlockFrames: what is written below the blocks leaves the automata as they are; and the table of pairs stands in its place.
 use mathlib.Core.Path.{◌≡◌, ap, refl, subst, sym}
 use mathlib.Core.Logic.{inl, inr}
-use mathlib.Core.List.{List}
+use mathlib.Core.List.{List, [], ◌∷◌}
 use Prim.Native.Nat.{◌≤◌, ℕ}
 use native.Mathlib.Omega.{arith}
 use lib.ListN.{length}
@@ -12,8 +12,8 @@ use Rattle.word_layout.specs.Layout.{Tabled, first_block, first_sets, pair_table
 use Rattle.word_layout.specs.declared.Block.{Block}
 use Rattle.word_layout.specs.declared.SetTable.{SetTable}
 use Rattle.live_table.specs.Entries.{Side}
-use Rattle.live_table.specs.SetRows.{Storable}
 use Rattle.live_letters.specs.Meeting.{LetterRoom}
+use Rattle.live_letters.proofs.Laws.{two-room}
 use Rattle.compare_search.specs.Searching.{Both, Ready}
 
 -- ---- the blocks
@@ -49,15 +49,9 @@ module _ {w : List ℕ} {tab : SetTable} (long : 8192 ≤ length w) (e : tab ≡
   pub tabled : Tabled w tab
   tabled = subst (λ (t : SetTable). Tabled w t) (sym e) (record { one_or_two = inr refl; before = omega arith; long = omega arith })
 
-  pub letter-room : (met₁ met₂ : ℕ) → LetterRoom tab w first_sets second_sets met₁ met₂
-  letter-room met₁ met₂ = subst (λ (t : SetTable). LetterRoom t w first_sets second_sets met₁ met₂) (sym e) (record {
-    behind₁ = omega arith;
-    behind₂ = omega arith;
-    long₁ = omega arith;
-    long₂ = omega arith;
-    one = λ (f : ◌≡◌ {A = ℕ} 2 1). absurd (omega arith);
-  })
+  pub letter-room : LetterRoom tab w (first_sets ∷ second_sets ∷ [])
+  letter-room = subst (λ (t : SetTable). LetterRoom t w (first_sets ∷ second_sets ∷ [])) (sym e) (two-room (omega arith) (omega arith) (omega arith) (omega arith))
 
--- a row has two sets, so it can hold any two
-pub storable : {tab : SetTable} → tab ≡ pair_table → (u v : List ℕ) → Storable tab u v
-storable e u v one = absurd (omega (arith, one, ap (λ (t : SetTable). t.sets) e))
+-- a row has two sets
+pub two_sets : {tab : SetTable} → tab ≡ pair_table → tab.sets ≡ 2
+two_sets e = ap (λ (t : SetTable). t.sets) e

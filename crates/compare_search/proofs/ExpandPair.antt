@@ -1,7 +1,8 @@
 -- ExpandPair: a step from each set of a pair leaves, for each letter, the two sets of the pair behind it.
+use Rattle.std.proofs.Common.{Option}
 use mathlib.Core.Path.{◌≡◌}
 use mathlib.Core.Logic.{inl}
-use mathlib.Core.List.{List}
+use mathlib.Core.List.{List, [], ◌∷◌}
 use mathlib.Core.Option.{some}
 use Prim.Native.Nat.{◌+◌, ◌<◌, ◌≤◌, ℕ}
 use native.Mathlib.Omega.{arith}
@@ -21,8 +22,7 @@ use Rattle.word_layout.specs.declared.Block.{Block}
 use Rattle.word_layout.specs.declared.SetTable.{SetTable}
 use Rattle.live_table.specs.Entries.{Holds, Side, alike, along}
 use Rattle.live_table.specs.SetRows.{left_row, right_row}
-use Rattle.live_table.specs.declared.Grown.{Grown}
-use Rattle.live_letters.specs.Meeting.{Grows, LetterSets, Outcome}
+use Rattle.live_letters.specs.Meeting.{Grows, LetterSets, Outcome, Table}
 use Rattle.live_letters.proofs.Laws.{behind-same, set_same, step-behind}
 use Rattle.compare_search.specs.Searching.{Both, Ready}
 
@@ -37,7 +37,7 @@ module _ {a : ℕ} {one two : Block} {w w₁ w₂ u v : List ℕ} (i from met₁
     (k₁ : Kept first_sets (first_sets + 256) w w₁) (f₁ : Stepped w one u (set_of w₁ first_sets met₁))
     (k₂ : Kept second_sets (second_sets + 256) w₁ w₂) (f₂ : Stepped w₁ two v (set_of w₂ second_sets met₂)) where
   pub letter-sets : (s t : Side) (es : List (Entry Pair)) (e : Entry Pair) → Both a s t w one two → Holds pair_table s t w from es → get_elem? es i ≡ some e
-      → LetterSets a s t w₂ first_sets second_sets met₁ met₂ e.state
+      → LetterSets a s t w₂ (first_sets ∷ second_sets ∷ []) (met₁ ∷ met₂ ∷ []) e.state
   letter-sets s t es e b h p l hl =
       let r = h.each i e p in (
         behind-same s e.state.left l (set_same w₁ w₂ first_sets met₁ l (row_below first_sets l k₂ (omega (arith, ready.few))))
@@ -51,8 +51,8 @@ pub both-steps : {w w₁ w₂ : List ℕ} → Kept first_sets (first_sets + 256)
 both-steps k₁ k₂ = kept_then (kept-wider (omega arith) (omega arith) k₁) (kept-wider (omega arith) (omega arith) k₂)
 
 -- what meeting all letters from pair i of a table tells
-abbrev pub LettersMet : (a i from met₁ met₂ : ℕ) (w w' : List ℕ) (r : Grown) → SetTable → Type 0
+abbrev pub LettersMet : (a i from met₁ met₂ : ℕ) (w w' : List ℕ) (r : Option ℕ) → SetTable → Type 0
 LettersMet a i from met₁ met₂ w w' r tab =
-    Kept tab.rows (table_end tab) w w' × (Grows a tab w' from r
-    × ((s t : Side) (es : List (Entry Pair)) (e : Entry Pair) → LetterSets a s t w first_sets second_sets met₁ met₂ e.state → Holds tab s t w from es → get_elem? es i ≡ some e
+    Kept tab.rows (table_end tab) w w' × ((i < from → Table a tab w from → Grows a tab w' from r)
+    × ((s t : Side) (es : List (Entry Pair)) (e : Entry Pair) → LetterSets a s t w (first_sets ∷ second_sets ∷ []) (met₁ ∷ met₂ ∷ []) e.state → Holds tab s t w from es → get_elem? es i ≡ some e
     → Outcome 512 tab s t w' (add_all alike es (next_entries (along s t) a e)) r))

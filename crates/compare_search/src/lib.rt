@@ -16,7 +16,7 @@ ghost use Rattle.live_letters.specs.Meeting.{Table, Grows, Outcome};
 ghost use Rattle.compare_search.specs.Searching.{Ready, Both};
 
 use live_letters::meet_letters;
-use live_table::{Grown, add_row, left, right};
+use live_table::{add_row, left, right};
 use table_list_steps::{start_set, step};
 use word_layout::{Block, FIRST_SETS, INDEX_HEADS, PAIR_INDEX, PAIR_ROWS, SECOND_SETS, SetTable};
 
@@ -34,7 +34,7 @@ pub fn pair_table() -> SetTable
 
 // Every letter from pair i: a step from each of its sets, for all letters at once, and then the letters.
 // Cost: one row for each arc of a live configuration, and that of `meet_letters`.
-fn expand(w: &mut [u64], a: usize, i: usize, from: usize, one: Block, two: Block) -> Grown
+fn expand(w: &mut [u64], a: usize, i: usize, from: usize, one: Block, two: Block) -> Option<usize>
     requires ready { Ready a w.old one two }
     requires i_lt_from { (i < from) × Table a pair_table w.old from }
     ensures kept { Kept 0 first_block w.old w.new }
@@ -47,12 +47,12 @@ fn expand(w: &mut [u64], a: usize, i: usize, from: usize, one: Block, two: Block
     let v = right(w, t, i);
     let met1 = step(w, one, FIRST_SETS, u);
     let met2 = step(w, two, SECOND_SETS, v);
-    meet_letters(w, t, FIRST_SETS, SECOND_SETS, a, i, from, met1, met2)
+    meet_letters(w, t, [FIRST_SETS, SECOND_SETS], [met1, met2], 0, a, i, from)
 }
 
 // All pairs, from the one that stands first.
 // Cost: that of `expand`, for each pair.
-fn explore_from(w: &mut [u64], a: usize, one: Block, two: Block) -> Grown
+fn explore_from(w: &mut [u64], a: usize, one: Block, two: Block) -> Option<usize>
     requires ready { Ready a w.old one two }
     requires table { Table a pair_table w.old 1 }
     ensures kept { Kept 0 first_block w.old w.new }
@@ -62,24 +62,18 @@ fn explore_from(w: &mut [u64], a: usize, one: Block, two: Block) -> Grown
 {
     let mut n: usize = 1;
     let mut i: usize = 0;
+    // kept: the number of pairs grows while they are gone over, so no range says which are to come
     while i < n {
-        match expand(w, a, i, n, one, two) {
-            Grown::TooMany => {
-                return Grown::TooMany;
-            }
-            Grown::Total(more) => {
-                n = more;
-            }
-        }
+        n = expand(w, a, i, n, one, two)?;
         i += 1;
     }
-    Grown::Total(n)
+    Some(n)
 }
 
 // All pairs that words over a letters lead to, from the live sets of the empty word in the two blocks; each with the pair and the letter by which it
 // was met first. 512 at most.
 // Cost: for each pair one row for each arc of a live configuration, and a look into the table for each letter that is met.
-pub fn explore_pairs(w: &mut [u64], a: usize, one: Block, two: Block) -> Grown
+pub fn explore_pairs(w: &mut [u64], a: usize, one: Block, two: Block) -> Option<usize>
     requires { Ready a w.old one two }
     ensures kept { Kept 0 first_block w.old w.new }
     ensures grows { Grows a pair_table w.new 1 result }
@@ -89,6 +83,6 @@ pub fn explore_pairs(w: &mut [u64], a: usize, one: Block, two: Block) -> Grown
     word_fields::fill(w, t.index + INDEX_HEADS, 128);
     let u = start_set(w, one);
     let v = start_set(w, two);
-    add_row(w, t, 0, u, v, 0);
+    add_row(w, t, 0, [u, v], 0);
     explore_from(w, a, one, two)
 }

@@ -2,7 +2,7 @@
 use mathlib.Core.Path.{◌≡◌, refl, sym, ap, ap₂, ◌∙◌, subst}
 use mathlib.Core.Logic.{◌↔◌, ◌≢◌}
 use mathlib.Core.Bool.{Bool, false, not, true}
-use mathlib.Core.Option.{some}
+use mathlib.Core.Option.{none, some}
 use mathlib.Core.List.{List, [], ◌∷◌}
 use Prim.Native.Nat.{ℕ, zero, suc, ◌+◌, ◌≤◌, ◌<◌}
 use native.Mathlib.Decide.{ℕ_discrete}
@@ -51,6 +51,11 @@ first-at f [] r b a = refl
 first-at f (y ∷ es) zero b a = rw (a y refl, first_of)
 first-at f (y ∷ es) (suc r) b a = rw (b 0 y (omega arith) refl, first_of) (first-at f es r (λ j x h p. b (suc j) x (omega arith) p) a)
 
+first-none : {A : Type 0} (f : A → Bool) (es : List A) → ((j : ℕ) (x : A) → get_elem? es j ≡ some x → f x ≡ false) → first_of f es ≡ none
+unfolding first_of
+first-none f [] b = refl
+first-none f (y ∷ es) b = rw (b 0 y refl, first_of) (first-none f es (λ j x p. b (suc j) x p))
+
 module _ (tab : SetTable) (w : List ℕ) (n : ℕ) (f g : List ℕ) where
   pub none_more : (i r : ℕ) → Judges tab w i f g r → r ≡ 0 → NoneBefore tab w n f g i → NoneBefore tab w n f g (i + 1)
   none_more i r told z before s t es h j e l p = go (ℕ_discrete j i)
@@ -65,6 +70,5 @@ module _ (tab : SetTable) (w : List ℕ) (n : ℕ) (f g : List ℕ) where
       (λ e p. ap not (ap (λ (k : ℕ). eqb k 0) (judge_entry tab w i n f g r told s t es e h p) ∙ ne_eqb r 0 nz))
 
   pub first-nowhere : (i : ℕ) → n ≤ i → NoneBefore tab w n f g i
-      → (s t : Side) (es : List (Entry Pair)) → Holds tab s t w n es → first_of (λ (e : Entry Pair). differs_by (view s.size f) (view t.size g) e.state) es ≡ get_elem? es n
-  first-nowhere i l before s t es h = first-at (λ (e : Entry Pair). differs_by (view s.size f) (view t.size g) e.state) es n (λ j x k p. before s t es h j x (omega arith) p)
-      (λ e p. absurd (omega (arith, get_elem?-lt es n p, h.many)))
+      → (s t : Side) (es : List (Entry Pair)) → Holds tab s t w n es → first_of (λ (e : Entry Pair). differs_by (view s.size f) (view t.size g) e.state) es ≡ none
+  first-nowhere i l before s t es h = first-none (λ (e : Entry Pair). differs_by (view s.size f) (view t.size g) e.state) es (λ j x p. before s t es h j x (omega (arith, get_elem?-lt es j p, h.many)) p)

@@ -1,16 +1,12 @@
 // compare_witness: the first row of a table of live sets that differs, and the word by which a row was met.
 #![tactic(auto)]
 
-ghost use Rattle.std.specs.Prelude.{◌≡◌, List, ◌++◌, map, ℕ, ◌≤◌, ◌<◌, drop, get_or, length};
-ghost use Rattle.std.proofs.Math.ListN.{get_elem?};
+ghost use Rattle.std.specs.Prelude.{◌≡◌, ◌++◌, map, ℕ, ◌≤◌, ◌<◌, drop, get_or, length};
 ghost use Rattle.automata.specs.Live.{meets};
-ghost use Rattle.automata.specs.Pairs.{Pair};
-ghost use Rattle.automata.specs.Search.{Entry, first_of};
-ghost use Rattle.live_table.specs.Entries.{Holds, Side};
 ghost use Rattle.live_table.specs.SetRows.{left_row, right_row};
 ghost use Rattle.word_layout.specs.Layout.{Tabled};
 ghost use Rattle.word_sets.specs.Sets.{Within, view};
-ghost use Rattle.compare_witness.specs.Spelled.{Climb, alone, differs_by, word_of};
+ghost use Rattle.compare_witness.specs.Spelled.{Climb, FirstDifference, alone, word_of};
 
 use word_layout::SetTable;
 
@@ -22,32 +18,25 @@ pub fn judge_pair(w: &[u64], t: SetTable, i: usize, f: [u64; 4], g: [u64; 4]) ->
 {
     let x = word_sets::meets(live_table::left(w, t, i), f);
     let y = word_sets::meets(live_table::right(w, t, i), g);
-    if x {
-        if y {
-            return 0;
-        }
-        return 1;
+    match (x, y) {
+        (true, false) => 1,
+        (false, true) => 2,
+        _ => 0,
     }
-    if y {
-        return 2;
-    }
-    0
 }
 
-// The number of the first of n rows that differs, or n where none does: its word is the first that exactly one accepts.
+// The number of the first of n rows that differs, if one does: its word is the first that exactly one accepts.
 // Cost: n rows at most.
-pub fn first_difference(w: &[u64], t: SetTable, n: usize, f: [u64; 4], g: [u64; 4]) -> usize
+pub fn first_difference(w: &[u64], t: SetTable, n: usize, f: [u64; 4], g: [u64; 4]) -> Option<usize>
     requires { (n ≤ 512) × Tabled w.now t }
-    ensures { (result ≤ n) × ((x y : Side) (es : List (Entry Pair)) → Holds t x y w.now n es → first_of (λ e. differs_by (view x.size f) (view y.size g) e.state) es ≡ get_elem? es result) }
+    ensures { FirstDifference t w.now n f g result }
 {
-    let mut i: usize = 0;
-    while i < n {
+    for i in 0..n {
         if judge_pair(w, t, i, f, g) != 0 {
-            return i;
+            return Some(i);
         }
-        i += 1;
     }
-    n
+    None
 }
 
 // The length of the word of row `from`, one of n, whose letters are among a: as many as there are parents above it.

@@ -1,5 +1,6 @@
 -- StartCounting: an automaton that stands in its block is ready for its live sets to be explored; what exploring them answers is said of its
 -- live sets, and words can be counted by them.
+use Rattle.std.proofs.Common.{Option, Some, None}
 use mathlib.Core.Path.{◌∙◌, ◌≡◌, ap, refl, subst, sym}
 use mathlib.Core.Logic.{inr}
 use mathlib.Core.Bool.{Bool}
@@ -22,8 +23,6 @@ use Rattle.word_layout.specs.declared.SetTable.{SetTable}
 use Rattle.table.specs.Standing.{Stands}
 use Rattle.table.proofs.Laws.{letters-are, stands-many, stands-numbered, stands-steps}
 use Rattle.table_live.specs.Steps.{Outgoing}
-use Rattle.live_table.specs.declared.Grown.{Grown}
-use Rattle.live_table.specs.declared.Grown.TheVariants.{TooMany, Total}
 use Rattle.live_letters.specs.Meeting.{Grows}
 use Rattle.live_search.specs.Exploring.{Searchable, SetsOutcome}
 use Rattle.live_building.proofs.Laws.{only_kept, step_room, tabled}
@@ -53,25 +52,25 @@ module _ {file : List ℕ} {c : Counts} {w : List ℕ} {block : Block} (h : Stan
         ∙ ap (λ (a : ℕ). met same_set (by_letter (length (configurations x 256)) (plain_arcs x 256)) a (live (length (configurations x 256)) (plain_arcs x 256) []) 512)
         (sym (letters-are file c (stands-numbered h).valid))
 
-    module _ (w' : List ℕ) (r : Grown) (o : SetsOutcome 512 block.count (plain_arcs x 256) set_table w' (met same_set (by_letter block.count (plain_arcs x 256)) c.letters S 512) r) where
+    module _ (w' : List ℕ) (r : Option ℕ) (o : SetsOutcome 512 block.count (plain_arcs x 256) set_table w' (met same_set (by_letter block.count (plain_arcs x 256)) c.letters S 512) r) where
       outcome : SetsOutcome 512 block.count (plain_arcs x 256) set_table w' (sets_of file) r
       outcome = subst (λ (sets : List (List Bool)). SetsOutcome 512 block.count (plain_arcs x 256) set_table w' sets r) sets-are o
 
-      pub sets_over : r ≡ TooMany → 512 < length (live_sets x 256 (live_set x 256 []) 512)
+      pub sets_over : r ≡ None → 512 < length (live_sets x 256 (live_set x 256 []) 512)
       unfolding sets_of
-      sets_over e = subst (λ (r : Grown). SetsOutcome 512 block.count (plain_arcs x 256) set_table w' (sets_of file) r) e outcome
+      sets_over e = subst (λ (r : Option ℕ). SetsOutcome 512 block.count (plain_arcs x 256) set_table w' (sets_of file) r) e outcome
 
-      pub counting : {n : ℕ} → r ≡ Total n → Kept set_table.rows (letter_sets + 256) w w' → Grows c.letters set_table w' 1 r → Counting file c w' block n
+      pub counting : {n : ℕ} → r ≡ Some n → Kept set_table.rows (letter_sets + 256) w w' → Grows c.letters set_table w' 1 r → Counting file c w' block n
       counting {n} e k g = record {
         stands = only_kept h only (inr (omega arith)) k;
         only = only;
         enough = omega (arith, k.long);
-        rows = (subst (λ (r : Grown). Grows c.letters set_table w' 1 r) e g).1;
-        sets = subst (λ (r : Grown). SetsOutcome 512 block.count (plain_arcs x 256) set_table w' (sets_of file) r) e outcome;
+        rows = (subst (λ (r : Option ℕ). Grows c.letters set_table w' 1 r) e g).1;
+        sets = subst (λ (r : Option ℕ). SetsOutcome 512 block.count (plain_arcs x 256) set_table w' (sets_of file) r) e outcome;
       }
 
 -- what exploring the live sets, into a table, tells
-abbrev pub Explored : (file : List ℕ) (c : Counts) (w : List ℕ) (block : Block) (start w' : List ℕ) (r : Grown) → SetTable → Type 0
+abbrev pub Explored : (file : List ℕ) (c : Counts) (w : List ℕ) (block : Block) (start w' : List ℕ) (r : Option ℕ) → SetTable → Type 0
 Explored file c w block start w' r t =
     Kept t.rows (letter_sets + 256) w w' × (Grows c.letters t w' 1 r × ((arcs : List PlainArc) → Outgoing file c w block arcs → ε_closed_set block.count arcs start
     → SetsOutcome 512 block.count arcs t w' (met same_set (by_letter block.count arcs) c.letters (view block.count start) 512) r))

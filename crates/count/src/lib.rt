@@ -1,8 +1,7 @@
-// count: how many words of one length are accepted, and how many are not? (document 02, change 2)
+// count: how many words of one length are accepted, and how many are not?
 #![tactic(auto)]
 
-ghost use Rattle.std.specs.Prelude.{◌≡◌, ◌^◌, ◌≤◌, length};
-ghost use Rattle.file_fields.specs.declared.Reading.TheVariants.{Valid};
+ghost use Rattle.std.specs.Prelude.{◌≡◌, ◌^◌, ◌≤◌, Ok, length};
 ghost use Rattle.format.specs.Decoding.{automaton_of};
 ghost use Rattle.format.specs.Reading.{reading_of};
 ghost use Rattle.word_layout.specs.Layout.{only_block};
@@ -12,13 +11,11 @@ ghost use Rattle.count.specs.Answers.{limits_answer, sets_answer};
 
 pub use count_promise::WordCount;
 use count_rounds::count_rounds;
-use count_sums::{Total, all_words};
-use format::Counts;
+use count_sums::all_words;
+use format::{Automaton, Counts, Reason, Refusal};
 use live_building::{build_pruned, set_table};
 use live_search::explore_sets;
-use live_table::Grown;
 use table::finals::final_configurations;
-use table_explore::Explored;
 use table_list_steps::start_set;
 use word_layout::{Block, LETTER_SETS, ONLY_BLOCK};
 
@@ -32,7 +29,7 @@ fn count_sets(
     block: Block,
     size: u64,
     total: u64,
-) -> WordCount
+) -> Result<WordCount, Refusal>
     requires stands { Stands file.now c w.old block × ((block.base ≡ only_block) × (8192 ≤ length w.old)) }
     requires total_value { total ≡ c.letters ^ size }
     ensures same { length w.new ≡ length w.old }
@@ -40,49 +37,37 @@ fn count_sets(
 {
     let finals = final_configurations(file, c, w, block.count);
     let start = start_set(w, block);
-    let Grown::Total(n) = explore_sets(file, c, w, block, set_table(), LETTER_SETS, start) else {
-        return WordCount::Refused {
-            number: 23,
-            automaton: 0,
-        };
+    let Some(n) = explore_sets(file, c, w, block, set_table(), LETTER_SETS, start) else {
+        return Err(Reason::TooManyLiveSets.of_call());
     };
     let accepted = count_rounds(file, c, w, block, n, finals, size);
-    WordCount::Counted {
+    Ok(WordCount {
         accepted,
         rejected: total - accepted,
-    }
+    })
 }
 
 // The words of a valid file with the counts c. Refuses, in this order: 31, a length above 64, or more words than 64 bits can count; 21, more
 // than 256 configurations; 23.
 // Cost: what building and `count_sets` take.
-fn count_valid(file: &[u8], c: Counts, w: &mut [u64], size: u64) -> WordCount
-    requires { (reading_of file.now ≡ Valid c) × (8192 ≤ length w.old) }
+fn count_valid(file: &[u8], c: Counts, w: &mut [u64], size: u64) -> Result<WordCount, Refusal>
+    requires { (reading_of file.now ≡ Ok c) × (8192 ≤ length w.old) }
     ensures same { length w.new ≡ length w.old }
     ensures answer { result ≡ limits_answer 256 512 64 18446744073709551615 (automaton_of file.now) size }
 {
     if 64 < size {
-        return WordCount::Refused {
-            number: 31,
-            automaton: 0,
-        };
+        return Err(Reason::LengthTooLarge.of_call());
     }
-    let Total::Words(total) = all_words(c.letters as u64, size) else {
-        return WordCount::Refused {
-            number: 31,
-            automaton: 0,
-        };
+    let Some(total) = all_words(c.letters as u64, size) else {
+        return Err(Reason::LengthTooLarge.of_call());
     };
-    let Explored::Tables { count, plain } = build_pruned(file, c, w) else {
-        return WordCount::Refused {
-            number: 21,
-            automaton: 1,
-        };
+    let Some(sizes) = build_pruned(file, c, w) else {
+        return Err(Reason::TooManyConfigurations.of(Automaton::First));
     };
     let block = Block {
         base: ONLY_BLOCK,
-        count,
-        plain,
+        count: sizes.count,
+        plain: sizes.plain,
     };
     count_sets(file, c, w, block, size, total)
 }
@@ -97,22 +82,16 @@ fn count_valid(file: &[u8], c: Counts, w: &mut [u64], size: u64) -> WordCount
 // operations, k that of its configurations, n that of its live sets, a that of its letters and s what a step by all letters takes: the plain
 // arcs of the live configurations, or where there are more than 2,048 the arcs and operations that leave their states. Where (n + 1) * a is
 // above 4,096, the sets behind the first 4096 / a - 1 take a step more for each letter of the length. Nothing is allocated.
-pub fn count_words(file: &[u8], size: u64, work: &mut [u64]) -> WordCount
+pub fn count_words(file: &[u8], size: u64, work: &mut [u64]) -> Result<WordCount, Refusal>
     ensures same { length work.new ≡ length work.old }
     ensures answer { result ≡ word_count_of file.now size (length work.old) }
 {
     if work.len() < 8192 {
-        return WordCount::Refused {
-            number: 24,
-            automaton: 0,
-        };
+        return Err(Reason::TooLittleMemoryLent.of_call());
     }
     let reading = format::read(file);
-    let format::Reading::Valid(c) = reading else {
-        return WordCount::Refused {
-            number: reading.number(),
-            automaton: 1,
-        };
+    let Ok(c) = reading else {
+        return Err(reading.unwrap_err().reason.of(Automaton::First));
     };
     count_valid(file, c, work, size)
 }

@@ -9,15 +9,19 @@ use Rattle.format.specs.Reading.{reading_of}
 use Rattle.file_laws.specs.Examples.{file_t}
 use Rattle.count_promise.specs.WordCounts.{word_count_of, word_count_within}
 use Rattle.count_promise.specs.declared.WordCount.{WordCount}
-use Rattle.count_promise.specs.declared.WordCount.TheVariants.{Counted, Refused}
+use Rattle.std.specs.Prelude.{None, Ok, Result, Some}
+use Rattle.file_fields.specs.declared.Automaton.TheVariants.{First}
+use Rattle.file_fields.specs.declared.Reason.TheVariants.{EndsInsideAField, LengthTooLarge, TooLittleMemoryLent, TooManyConfigurations, TooManyLiveSets}
+use Rattle.file_fields.specs.declared.Refusal.{Refusal}
+use Rattle.format.specs.Refusals.{refused}
 
 -- of the 27 words of 3 letters 2 are accepted
-pub counted-T : word_count_of file_t 3 8192 ≡ Counted 2 25
+pub counted-T : word_count_of file_t 3 8192 ≡ Ok (record { accepted = 2; rejected = 25 })
 unfolding word_count_of reading_of automaton_of configurations live_sets live_set accepted_many rejected_many
 counted-T = refl
 
 -- T has 5 configurations and 6 live sets: at these limits it is counted, and at one less of each it is refused
-abbrev limited : List WordCount
+abbrev limited : List (Result WordCount Refusal)
 limited =
     word_count_within 5 6 3 27 file_t 3 8192
     ∷ word_count_within 5 6 3 27 file_t 3 8191
@@ -28,6 +32,6 @@ limited =
     ∷ word_count_within 5 5 3 27 file_t 3 8192
     ∷ []
 
-pub refused-T : limited ≡ Counted 2 25 ∷ Refused 24 0 ∷ Refused 1 1 ∷ Refused 31 0 ∷ Refused 31 0 ∷ Refused 21 1 ∷ Refused 23 0 ∷ []
+pub refused-T : limited ≡ Ok (record { accepted = 2; rejected = 25 }) ∷ refused TooLittleMemoryLent None ∷ refused EndsInsideAField (Some First) ∷ refused LengthTooLarge None ∷ refused LengthTooLarge None ∷ refused TooManyConfigurations (Some First) ∷ refused TooManyLiveSets None ∷ []
 unfolding word_count_within reading_of automaton_of configurations live_sets live_set accepted_many rejected_many
 refused-T = refl

@@ -11,12 +11,16 @@ use Rattle.automata.specs.Counting.{MoreThan}
 use Rattle.automata.specs.Unfolding.{configurations, live_set}
 use Rattle.automata.proofs.Laws.{both-many, counting-words, living_same, reaching_more}
 use Rattle.format.specs.Decoding.{automaton_of}
-use Rattle.format.specs.Refusals.{FirstHolds, fault_of, unless_refused}
-use Rattle.file_laws.proofs.Laws.{NoneHolds, Outcome, at_least, first-exactly, first_some, none_first, refused-or_not}
+use Rattle.format.specs.Refusals.{FirstHolds, Refusals, fault_of, refused as refusal, unless_refused}
+use Rattle.file_laws.proofs.Laws.{NoneHolds, Outcome, at_least, first-exactly, first_some, none_first, number-above, refused-or_not}
 use Rattle.count_promise.specs.Promised.{Premises, Promised, conditions}
 use Rattle.count_promise.specs.WordCounts.{counts_of, refusals, told, word_count_of, word_count_within}
 use Rattle.count_promise.specs.declared.WordCount.{WordCount}
-use Rattle.count_promise.specs.declared.WordCount.TheVariants.{Refused}
+use Rattle.std.specs.Prelude.{Option, Result}
+use Rattle.file_fields.specs.declared.Automaton.{Automaton as Blamed}
+use Rattle.file_fields.specs.declared.Reason.{Reason}
+use Rattle.file_fields.specs.declared.Refusal.{Refusal}
+use Rattle.file_fields.specs.Parts.{automaton_number, number_of}
 use Rattle.count_promise.proofs.Refusals.{refusals-decide}
 
 module _ (file : List ℕ) (size words : ℕ) where
@@ -53,9 +57,9 @@ module _ (file : List ℕ) (size words : ℕ) where
   by_runs h = living_same x 256 (few h)
 
   -- ---- the whole answer
-  refused : (n b : ℕ) → 0 < n → FirstHolds cs n b → Promised file size words (told (Refused n b))
-  refused n b pos f = record {
-    answers = (λ z. absurd (omega arith), λ p. absurd (none p));
+  refused : (why : Reason) (whose : Option Blamed) → FirstHolds cs (number_of why) (automaton_number whose) → Promised file size words (told (refusal why whose))
+  refused why whose f = record {
+    answers = (λ z. absurd (omega (arith, number-above why)), λ p. absurd (none p));
     accepted = λ p. absurd (none p);
     rejected = λ p. absurd (none p);
     total = λ p. absurd (none p);
@@ -65,7 +69,7 @@ module _ (file : List ℕ) (size words : ℕ) where
   }
     where
       none : ¬ Premises file size words
-      none p = first_some cs n b pos f (none_of p)
+      none p = first_some cs (number_of why) (automaton_number whose) (number-above why) f (none_of p)
 
   answered : Premises file size words → Promised file size words (told (counts_of 256 x size))
   answered p = record {
@@ -79,16 +83,16 @@ module _ (file : List ℕ) (size words : ℕ) where
   }
 
   -- THE PROMISE of counting, from the equation of its contract.
-  pub counting-promised : (r : WordCount) → r ≡ word_count_of file size words → Promised file size words (told r)
+  pub counting-promised : (r : Result WordCount Refusal) → r ≡ word_count_of file size words → Promised file size words (told r)
   unfolding word_count_of word_count_within
-  counting-promised r a = either (refused-or_not Refused answer all cs (refusals-decide file size words))
+  counting-promised r a = either (refused-or_not refusal answer all cs (refusals-decide file size words))
     where
-      all : List (Bool × ℕ × ℕ)
+      all : Refusals
       all = refusals 256 512 64 18446744073709551615 file size words
 
-      answer : WordCount
+      answer : Result WordCount Refusal
       answer = counts_of 256 x size
 
-      either : Outcome Refused answer cs (unless_refused Refused all answer) → Promised file size words (told r)
-      either (inl h) = subst (λ (c : WordCount). Promised file size words (told c)) (sym (a ∙ h.1)) (answered (Premises-of h.0))
-      either (inr h) = subst (λ (c : WordCount). Promised file size words (told c)) (sym (a ∙ h.4)) (refused h.0 h.1 h.2 h.3)
+      either : Outcome refusal answer cs (unless_refused refusal all answer) → Promised file size words (told r)
+      either (inl h) = subst (λ (c : Result WordCount Refusal). Promised file size words (told c)) (sym (a ∙ h.1)) (answered (Premises-of h.0))
+      either (inr h) = subst (λ (c : Result WordCount Refusal). Promised file size words (told c)) (sym (a ∙ h.3)) (refused h.0 h.1 h.2)

@@ -13,14 +13,14 @@ use Rattle.count_promise.specs.WordCounts.{limit_refusals, refusals}
 pub refusals-decide : (file : List ℕ) (size words : ℕ) → Decide (refusals 256 512 64 18446744073709551615 file size words) (conditions file size words)
 unfolding refusals limit_refusals
 refusals-decide file size words = (
-  less-decided words 8192 24 0 (omega arith),
+  less-decided words 8192 _ _,
   (
-    fault_decided file 1,
+    fault_decided file _,
     (
-      decided _ 31 0 (either_less 64 size 18446744073709551615 (letters (automaton_of file) ^ size)) (λ _. omega arith),
+      decided _ _ _ (either_less 64 size 18446744073709551615 (letters (automaton_of file) ^ size)),
       (
-        reach-decided (automaton_of file) 256 21 1 (omega arith),
-        (decided _ 23 0 (iff-trans (less-iff 512 _) (counting_more (automaton_of file) 256 [] 512)) (λ _. omega arith), tt),
+        reach-decided (automaton_of file) 256 _ _,
+        (decided _ _ _ (iff-trans (less-iff 512 _) (counting_more (automaton_of file) 256 [] 512)), tt),
       ),
     ),
   ),

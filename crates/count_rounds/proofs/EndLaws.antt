@@ -16,7 +16,7 @@ use Rattle.automata.specs.Unfolding.{configurations, final_set}
 use Rattle.file_fields.specs.declared.Counts.{Counts}
 use Rattle.format.specs.Decoding.{automaton_of}
 use Rattle.word_fields.specs.Frame.{Kept}
-use Rattle.word_fields.proofs.Laws.{kept_same, kept_set, kept_then, kept-wider}
+use Rattle.word_fields.proofs.Laws.{kept_set, kept_then, kept-wider}
 use Rattle.word_sets.specs.Sets.{Within, view}
 use Rattle.word_layout.specs.Layout.{counts, letter_sets, set_table}
 use Rattle.word_layout.specs.declared.Block.{Block}
@@ -28,18 +28,13 @@ use Rattle.count_targets.proofs.Laws.{counting-letters, numbered-first, numbered
 use Rattle.count_rounds.specs.Rounds.{Counted, Ended, ends_in, many_of}
 
 -- ---- the first i ends are counted
-pub record Ending (n : ℕ) (finals w₀ : List ℕ) (i : ℕ) (w : List ℕ) : Type 0 where
-  pub few : i ≤ n
+pub record Ending (finals w₀ : List ℕ) (i : ℕ) (w : List ℕ) : Type 0 where
   pub kept : Kept counts (counts + 512) w₀ w
   pub ended : Ended w₀ i finals w
 
-pub Ending-start : (n : ℕ) (finals w : List ℕ) → Ending n finals w 0 w
-Ending-start n finals w = record { few = omega arith; kept = kept_same counts (counts + 512) w; ended = λ k i h. absurd (omega arith) }
-
-pub Ending-more : {n i one : ℕ} {finals w₀ w : List ℕ} (u : List ℕ) → n ≤ 512 → letter_sets ≤ length w₀ → i < n → Ending n finals w₀ i w → u ≡ left_row set_table w i
-    → ((count : ℕ) → Within count u → one ≡ ends_in count u finals) → Ending n finals w₀ (i + 1) (set w (counts + i) one)
+pub Ending-more : {n i one : ℕ} {finals w₀ w : List ℕ} (u : List ℕ) → n ≤ 512 → letter_sets ≤ length w₀ → i < n → Ending finals w₀ i w → u ≡ left_row set_table w i
+    → ((count : ℕ) → Within count u → one ≡ ends_in count u finals) → Ending finals w₀ (i + 1) (set w (counts + i) one)
 Ending-more {n} {i} {one} {finals} {w₀} {w} u few long low b is ends = record {
-  few = omega arith;
   kept = kept_then b.kept (kept-wider (omega arith) (omega arith) (kept_set w (counts + i) one));
   ended = λ k j h v. go k j h v (ℕ_discrete j i);
 }

@@ -1,6 +1,6 @@
 -- RoundLaws: a round. The words that are one letter longer are, over all letters, those from the sets that the letters lead to; no sum exceeds
 -- the largest number of 64 bits.
-use mathlib.Core.Path.{◌∙◌, ◌≡◌, ap, refl}
+use mathlib.Core.Path.{◌∙◌, ◌≡◌, ap}
 use mathlib.Core.Bool.{Bool}
 use mathlib.Core.List.{List}
 use Prim.Native.Nat.{◌*◌, ◌+◌, ◌<◌, ◌≤◌, ℕ}
@@ -52,19 +52,14 @@ module _ (file : List ℕ) (c : Counts) (block : Block) (n kept : ℕ) where
 
   -- ---- the counts of the first i sets are made
   pub record Nexting (w₀ : List ℕ) (i : ℕ) (w : List ℕ) : Type 0 where
-    pub few : i ≤ n
     pub rounds : Rounds file c w block n kept
     pub same : (j : ℕ) → j < 512 → get_or w (counts + j) 0 ≡ get_or w₀ (counts + j) 0
     pub done : (k : ℕ) → Counted file c.letters w₀ counts n k → (j : ℕ) → j < i → get_or w (next_counts + j) 0 ≡ many_of file c.letters (k + 1) j
-
-  pub Nexting-start : {w : List ℕ} → Rounds file c w block n kept → Nexting w 0 w
-  Nexting-start r = record { few = omega arith; rounds = r; same = λ j h. refl; done = λ k e j h. absurd (omega arith) }
 
   -- the targets of set i are in the words w₁, in the slot; their sum is written
   pub Nexting-more : {w₀ w w₁ : List ℕ} {i slot sum : ℕ} → i < n → Nexting w₀ i w → Kept targets (letter_sets + 256) w w₁ → Rounds file c w₁ block n kept → Noted file n c.letters w₁ i slot
       → sum ≡ targets_sum w₁ c.letters (slot * c.letters) → Nexting w₀ (i + 1) (set w₁ (next_counts + i) sum)
   Nexting-more {w₀} {w} {w₁} {i} {slot} {sum} low b k r noted e = record {
-    few = omega arith;
     rounds = rounds-kept (omega (arith, few)) (kept_set w₁ (next_counts + i) sum) r;
     same = λ j h. get_or-set_other w₁ (next_counts + i) (counts + j) sum 0 (λ p. omega arith) ∙ same₁ j h;
     done = λ m f j h. go m f j h (ℕ_discrete j i);

@@ -24,7 +24,7 @@ use word_layout::{Block, COUNTS, NEXT_COUNTS};
 fn ends_in(set: [u64; 4], finals: [u64; 4]) -> u64
     ensures { (count : ℕ) → Within count set → result ≡ ends_in count set finals }
 {
-    if word_sets::meets(set, finals) { 1 } else { 0 }
+    u64::from(word_sets::meets(set, finals))
 }
 
 // The counts of words of no letters.
@@ -34,11 +34,9 @@ fn count_ends(w: &mut [u64], n: usize, finals: [u64; 4])
     ensures kept { Kept counts (counts + 512) w.old w.new }
     ensures ended { Ended w.old n finals w.new }
 {
-    let mut i: usize = 0;
-    while i < n {
+    for i in 0..n {
         let set = left(w, set_table(), i);
         w[COUNTS + i] = ends_in(set, finals);
-        i += 1;
     }
 }
 
@@ -48,10 +46,8 @@ fn note_kept(file: &[u8], c: Counts, w: &mut [u64], block: Block, n: usize, kept
     requires { Counting file.now c w.old block n × ((kept + 1) * c.letters ≤ 4096) }
     ensures { Rounds file.now c w.new block n kept }
 {
-    let mut i: usize = 0;
-    while i < n && i < kept {
+    for i in 0..n.min(kept) {
         note_targets(file, c, w, block, n, i, i);
-        i += 1;
     }
 }
 
@@ -85,11 +81,9 @@ fn count_next(file: &[u8], c: Counts, w: &mut [u64], block: Block, n: usize, kep
     ensures still { Rounds file.now c w.new block n kept }
     ensures counted { (k : ℕ) → Counted file.now c.letters w.old counts n k → Counted file.now c.letters w.new next_counts n (k + 1) }
 {
-    let mut i: usize = 0;
-    while i < n {
+    for i in 0..n {
         let slot = slot_of(file, c, w, block, n, kept, i);
         w[NEXT_COUNTS + i] = sum_targets(w, c.letters, slot * c.letters);
-        i += 1;
     }
 }
 
@@ -111,11 +105,9 @@ pub fn count_rounds(
     let kept = kept_sets(c.letters);
     note_kept(file, c, w, block, n, kept);
     count_ends(w, n, finals);
-    let mut k: u64 = 0;
-    while k < size {
+    for _ in 0..size {
         count_next(file, c, w, block, n, kept);
         take_next(w, n);
-        k += 1;
     }
     w[COUNTS]
 }

@@ -1,10 +1,8 @@
 -- Sums: what the words of counting sum to, and how many words of one length there are.
-use Rattle.std.specs.Prelude.{◌≡◌, List, ℕ, ◌+◌, ◌^◌, ◌≤◌, ◌<◌, get_or, length}
+use Rattle.std.specs.Prelude.{◌≡◌, List, Option, Some, None, ℕ, ◌+◌, ◌^◌, ◌≤◌, ◌<◌, get_or, length}
 use Rattle.automata.specs.Lengths.{sum_below}
 use Rattle.word_fields.specs.Fields.{field}
 use Rattle.word_layout.specs.Layout.{counts, targets}
-use Rattle.count_sums.specs.declared.Total.{Total}
-use Rattle.count_sums.specs.declared.Total.TheVariants.{Over, Words}
 
 -- the number of the set that stands in field k of the targets
 abbrev pub target_at : List ℕ → ℕ → ℕ
@@ -23,6 +21,6 @@ pub record Summable (w : List ℕ) (a from most : ℕ) : Type 0 where
   pub fits : targets_sum w a from ≤ most
 
 -- how many words of n letters there are over a letters: so many, or more than `most`
-abbrev pub TotalOf : (most a n : ℕ) → Total → Type 0
-TotalOf most a n (Words p) = p ≡ a ^ n
-TotalOf most a n Over = most < a ^ n
+abbrev pub TotalOf : (most a n : ℕ) → Option ℕ → Type 0
+TotalOf most a n (Some p) = p ≡ a ^ n
+TotalOf most a n None = most < a ^ n

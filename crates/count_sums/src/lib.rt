@@ -10,30 +10,16 @@ ghost use Rattle.count_sums.specs.Sums.{Summable, TotalOf, targets_sum};
 use word_fields::get16;
 use word_layout::{COUNTS, NEXT_COUNTS, TARGETS};
 
-// How many words of a length there are: so many, or more than 64 bits hold.
-#[derive(Clone, Copy)]
-pub enum Total {
-    Over,
-    Words(u64),
-}
-
-// How many words of `size` letters there are over a letters.
+// How many words of `size` letters there are over a letters, or none where 64 bits do not hold the number.
 // Cost: `size` steps.
-pub fn all_words(a: u64, size: u64) -> Total
+pub fn all_words(a: u64, size: u64) -> Option<u64>
     ensures { TotalOf 18446744073709551615 a size result }
 {
     let mut total: u64 = 1;
-    let mut i: u64 = 0;
-    while i < size {
-        if a != 0 {
-            if 0xFFFF_FFFF_FFFF_FFFF / a < total {
-                return Total::Over;
-            }
-        }
-        total = total * a;
-        i += 1;
+    for _ in 0..size {
+        total = total.checked_mul(a)?;
     }
-    Total::Words(total)
+    Some(total)
 }
 
 // For how many sets the numbers that their letters lead to are kept, in 4,096 fields with room for one set more.
@@ -55,10 +41,8 @@ pub fn sum_targets(w: &[u64], a: usize, from: usize) -> u64
     ensures { result ≡ targets_sum w.now a from }
 {
     let mut sum: u64 = 0;
-    let mut l: usize = 0;
-    while l < a {
+    for l in 0..a {
         sum += w[COUNTS + get16(w, TARGETS, from + l)];
-        l += 1;
     }
     sum
 }
@@ -70,9 +54,5 @@ pub fn take_next(w: &mut [u64], n: usize)
     ensures kept { Kept counts (counts + 512) w.old w.new }
     ensures taken { (i : ℕ) → i < n → get_or w.new (counts + i) 0 ≡ get_or w.old (next_counts + i) 0 }
 {
-    let mut i: usize = 0;
-    while i < n {
-        w[COUNTS + i] = w[NEXT_COUNTS + i];
-        i += 1;
-    }
+    w.copy_within(NEXT_COUNTS..NEXT_COUNTS + n, COUNTS);
 }

@@ -21,7 +21,7 @@ use Rattle.count_sums.specs.Sums.{target_at}
 use Rattle.count_targets.specs.Counting.{Counting, Noted, set_numbered}
 use Rattle.count_targets.specs.Targets.{NumberOf, Numbers}
 use Rattle.count_targets.proofs.CountingLaws.{counting-letters, numbered-behind, numbered-view}
-use Rattle.live_sets.proofs.Laws.{same_row}
+use Rattle.live_table.proofs.Laws.{same_row}
 
 module _ {file : List ℕ} {c : Counts} {w : List ℕ} {block : Block} {n i : ℕ} (h : Counting file c w block n) (low : i < n) where
   -- u is the set behind letter l

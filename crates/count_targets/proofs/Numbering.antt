@@ -13,7 +13,7 @@ use lib.ListN.{get_or, length}
 use Rattle.word_fields.specs.Chains.{Found}
 use Rattle.word_fields.specs.Fields.{field}
 use Rattle.word_fields.specs.Frame.{Kept}
-use Rattle.word_fields.proofs.Laws.{kept_same, kept_then, kept-wider}
+use Rattle.word_fields.proofs.Laws.{kept_then, kept-wider}
 use Rattle.word_sets.specs.Sets.{in_set}
 use Rattle.word_sets.proofs.Laws.{Four, has-bit}
 use Rattle.word_rows.proofs.Laws.{row-above}
@@ -22,7 +22,7 @@ use Rattle.table_sets.specs.Stepping.{set_of}
 use Rattle.table_sets.proofs.Laws.{same-sets, set-off}
 use Rattle.live_table.specs.SetRows.{RowAt, RowChain, left_row}
 use Rattle.live_table.proofs.Laws.{lacking, left-kept, rows-kept}
-use Rattle.live_sets.proofs.Laws.{same_row}
+use Rattle.live_table.proofs.Laws.{same_row}
 use Rattle.live_building.proofs.Laws.{tabled}
 use Rattle.count_sums.specs.Sums.{target_at}
 use Rattle.count_targets.specs.Targets.{EmptyNumber, NumberOf, Numbers}
@@ -73,28 +73,17 @@ module _ {w₀ w : List ℕ} (long : letter_sets + 256 ≤ length w₀) (kept : 
       (number_same (λ p h. sym (left_there p (omega arith))) f)
 
 -- the first l letters are numbered, and `none` is the number of the empty set, if it is known
-pub record Numbering (w₀ : List ℕ) (n met from a l none : ℕ) (w : List ℕ) : Type 0 where
-  pub few : l ≤ a
+pub record Numbering (w₀ : List ℕ) (n met from l none : ℕ) (w : List ℕ) : Type 0 where
   pub kept : Kept targets (targets + 1024) w₀ w
   pub before : (k : ℕ) → k < from → field w targets k ≡ field w₀ targets k
   pub numbers : Numbers w₀ n met w from l
   pub empty : EmptyNumber w₀ n none
 
-pub numbering_start : (w : List ℕ) (n met from a : ℕ) → Numbering w n met from a 0 (n + 1) w
-numbering_start w n met from a = record {
-  few = omega arith;
-  kept = kept_same targets (targets + 1024) w;
-  before = λ k h. refl;
-  numbers = λ l h. absurd (omega arith);
-  empty = λ h. absurd (omega arith);
-}
-
-pub Numbering-more : {w₀ w w'' : List ℕ} {n met from a l none none' r : ℕ} → from + a ≤ 4096 → l < a → Numbering w₀ n met from a l none w
+pub Numbering-more : {w₀ w w'' : List ℕ} {n met from a l none none' r : ℕ} → from + a ≤ 4096 → l < a → Numbering w₀ n met from l none w
     → NumberOf w₀ n (set_of w₀ letter_sets met l) r → EmptyNumber w₀ n none'
     → Kept (targets + (from + l) / 4) (targets + (from + l) / 4 + 1) w w'' → ((j : ℕ) → field w'' targets j ≡ cond (eqb j (from + l)) r (field w targets j))
-    → Numbering w₀ n met from a (l + 1) none' w''
+    → Numbering w₀ n met from (l + 1) none' w''
 Numbering-more {w₀} {w} {w''} {n} {met} {from} {a} {l} {none} {none'} {r} room low b here known k put = record {
-  few = omega arith;
   kept = kept_then b.kept (kept-wider (omega arith) (omega arith) k);
   before = λ j h. other j (λ e. omega arith) ∙ b.before j h;
   numbers = λ j h. go j h (ℕ_discrete j l);

@@ -28,12 +28,12 @@ fn number_of(w: &[u64], n: usize, met: u64, l: usize, none: usize) -> usize
 {
     if met & (1u64 << l) != 0 {
         let set = set_of(w, LETTER_SETS, met, l);
-        return find_row(w, set_table(), n, set, set);
+        return find_row(w, set_table(), n, [set]).unwrap_or(n);
     }
     if none <= n {
         return none;
     }
-    find_row(w, set_table(), n, [0; 4], [0; 4])
+    find_row(w, set_table(), n, [[0; 4]]).unwrap_or(n)
 }
 
 // The number of the set of each letter, among the n of the table, in the a fields from `from` on. Of many letters most are not met: the
@@ -47,14 +47,12 @@ fn number_letters(w: &mut [u64], a: usize, n: usize, met: u64, from: usize)
     ensures numbers { Numbers w.old n met w.new from a }
 {
     let mut none = n + 1;
-    let mut l: usize = 0;
-    while l < a {
+    for l in 0..a {
         let number = number_of(w, n, met, l, none);
         put16(w, TARGETS, from + l, number);
         if met & (1u64 << l) == 0 {
             none = number;
         }
-        l += 1;
     }
 }
 

@@ -3,67 +3,37 @@
 // is the name of the file of words, then its lines with the answer's sign in place of the one that stands there.
 #![tactic(auto)]
 
-ghost use Rattle.std.specs.Prelude.{◌≤◌, length};
-
-use book_console::console::Console;
-use book_console::files::{Loaded, load};
-use book_console::refusals::tell_refusal;
+use book_console::console::{Console, Stream};
+use book_console::files::load;
+use book_console::refusals::{Named, tell_refusal};
 use book_console::words::{say, say_argument};
 use std::process::ExitCode;
 use table::Membership;
 
 // A line of the answer. Cost: the line.
 fn say_line(console: &Console, sign: &[u8], word: &[u8]) {
-    say(console, 1, sign);
-    if word.len() > 0 {
-        say(console, 1, b" ");
-        say(console, 1, word);
+    say(console, Stream::Out, sign);
+    if !word.is_empty() {
+        say(console, Stream::Out, b" ");
+        say(console, Stream::Out, word);
     }
-    say(console, 1, b"\n");
+    say(console, Stream::Out, b"\n");
 }
 
-// Judges a word. `argument` names the file. Cost: that of `table::accepts`, and the line or that of `tell_refusal`.
-fn judge(console: &Console, argument: usize, file: &[u8], word: &[u8], work: &mut [u64]) {
-    match table::accepts(file, word, work) {
-        Membership::Accepted(_) => say_line(console, b"+", word),
-        Membership::Rejected(_) => say_line(console, b"-", word),
-        Membership::Refused(number, automaton) => {
-            tell_refusal(console, number, automaton, argument, argument, file, file);
-        }
+// Judges a word. Cost: that of `table::accepts`, and the line or that of `tell_refusal`.
+fn judge(console: &Console, file: Named, word: &[u8], work: &mut [u64]) {
+    match table::accepts(file.bytes, word, work) {
+        Ok(Membership::Accepted(_)) => say_line(console, b"+", word),
+        Ok(Membership::Rejected(_)) => say_line(console, b"-", word),
+        Err(refusal) => tell_refusal(console, refusal, &[file]),
     }
 }
 
-// Judges the word of a line: what stands behind the sign and a space. Cost: that of `judge`.
-fn judge_line(console: &Console, argument: usize, file: &[u8], line: &[u8], work: &mut [u64]) {
-    if line.len() < 2 {
-        judge(console, argument, file, &line[0..0], work);
-    } else {
-        judge(console, argument, file, &line[2..], work);
-    }
-}
-
-// Where the line that begins at a place ends: at a newline, or where the text ends. Cost: the bytes of the line.
-fn line_end(text: &[u8], from: usize) -> usize
-    requires { from ≤ length text.now }
-    ensures { (from ≤ result) × (result ≤ length text.now) }
-{
-    let mut i = from;
-    while i < text.len() {
-        if text[i] == b'\n' {
-            return i;
-        }
-        i += 1;
-    }
-    i
-}
-
-// Judges every line of the text. Cost: that of `judge_line` for each line.
-fn judge_lines(console: &Console, argument: usize, file: &[u8], text: &[u8], work: &mut [u64]) {
-    let mut at: usize = 0;
-    while at < text.len() {
-        let end = line_end(text, at);
-        judge_line(console, argument, file, &text[at..end], work);
-        at = end + 1;
+// Judges the word of every line of the text: what stands behind the sign and a space. Cost: that of `judge` for each line.
+fn judge_lines(console: &Console, file: Named, text: &[u8], work: &mut [u64]) {
+    for line in text.split_inclusive(|byte| *byte == b'\n') {
+        let line = line.strip_suffix(b"\n").unwrap_or(line);
+        judge(console, file, line.get(2..).unwrap_or(b""), work);
     }
 }
 
@@ -73,25 +43,27 @@ fn judge_example(console: &Console, first: usize, second: usize) {
     let mut file = [0u8; 41293];
     let mut text = [0u8; 41293];
     let mut work = [0u64; 8192];
-    let Loaded::Bytes(n) = load(console, first, &mut file) else {
+    let Some(bytes) = load(console, first, &mut file) else {
         return;
     };
-    let Loaded::Bytes(m) = load(console, second, &mut text) else {
+    let Some(text) = load(console, second, &mut text) else {
         return;
     };
-    say_argument(console, 1, second);
-    say(console, 1, b"\n");
-    judge_lines(console, first, &file[0..n], &text[0..m], &mut work);
+    say_argument(console, Stream::Out, second);
+    say(console, Stream::Out, b"\n");
+    let file = Named {
+        argument: first,
+        bytes,
+    };
+    judge_lines(console, file, text, &mut work);
 }
 
 // Arguments are taken two by two, a thousand at most.
 fn main(rt: HostRuntime) -> ExitCode {
     let console = &Console::new(rt);
-    let count = console.argument_count();
-    let mut i: usize = 1;
-    while i < 1000 && i < count {
+    let count = console.argument_count().unwrap_or(0);
+    for i in (0..count.min(999)).step_by(2) {
         judge_example(console, i, i + 1);
-        i += 2;
     }
     console.last_status()
 }

@@ -46,12 +46,10 @@ fn write_ops(out: &mut [u8], ops: &[u8], p: usize, k: usize)
     requires { (k ≤ 8) × (2 * p ≤ length ops.now) × (2 * p ≤ length out.old) × KnownOps p ops.now }
     ensures { out.new ≡ placed 0 (ops_bytes (map (moved_op k) (ops_of p ops.now))) out.old }
 {
-    let mut i: usize = 0;
-    while i < p {
+    for i in 0..p {
         let first = moved_operation(byte(ops, 2 * i), k);
         out[2 * i] = first as u8;
         out[2 * i + 1] = ops[2 * i + 1];
-        i += 1;
     }
 }
 
@@ -69,11 +67,9 @@ fn write_clearing(out: &mut [u8], p: usize)
     requires { (p ≤ 8) × (2 * p ≤ length out.old) }
     ensures { out.new ≡ placed 0 (ops_bytes (map (λ (i : ℕ). writes i 0) (count_from 1 p))) out.old }
 {
-    let mut i: usize = 0;
-    while i < p {
+    for i in 0..p {
         out[2 * i] = (17 + i) as u8;
         out[2 * i + 1] = 0;
-        i += 1;
     }
 }
 

@@ -6,7 +6,7 @@ use Prim.Native.Nat.{ℕ, ◌≤◌}
 use borrow.Author.Tests.{leb-true}
 use lib.ListN.{length, get_or, drop}
 use Rattle.file_fields.specs.declared.Counts.{Counts}
-use Rattle.file_fields.specs.declared.Reading.TheVariants.{Valid}
+use Rattle.std.specs.Prelude.{Ok}
 use Rattle.file_fields.specs.Parts.{field_tests, well_ops, arc_size, arc_tests, first_fault}
 use Rattle.file_fields.proofs.Laws.{Hold, valid-hold}
 
@@ -23,5 +23,5 @@ arc-seen c at l h =
     record { fields = (f.0, (f.1.0, (f.1.1.0, (f.1.1.1.0, tt)))); whole = leb-true _ _ o.0; ops = o.1.0 }
 
 -- an arc without a fault is there whole
-pub arc-whole : (c : Counts) (at : ℕ) (l : List ℕ) {d : Counts} → first_fault (arc_tests c at l) c ≡ Valid d → arc_size l ≤ length l
+pub arc-whole : (c : Counts) (at : ℕ) (l : List ℕ) {d : Counts} → first_fault (arc_tests c at l) c ≡ Ok d → arc_size l ≤ length l
 arc-whole c at l e = (arc-seen c at l (valid-hold (arc_tests c at l) c e).0).whole

@@ -6,7 +6,7 @@ ghost use Rattle.std.specs.Prelude.{◌≡◌, true, ℕ, ◌+◌, ◌*◌, ◌<
 ghost use Rattle.file_fields.specs.Parts.{field_tests, well_op, well_ops, ops_front, arc_tests, arcs_tests, all_hold, first_fault};
 
 use file_fields::fields::{arc_size, byte, operation_kind, operation_register};
-use file_fields::{Counts, Reading};
+use file_fields::{Counts, Fault, Reason};
 
 // Whether the two bytes at a place are an operation, whatever the arc's letter. Cost: constant.
 fn is_operation(c: Counts, s: &[u8], at: usize) -> bool
@@ -29,12 +29,10 @@ fn are_operations(c: Counts, s: &[u8], p: usize) -> bool
     requires { 2 * p ≤ length s.now }
     ensures { (letter : ℕ) → result ≡ well_ops c letter p s.now }
 {
-    let mut i: usize = 0;
-    while i < p {
+    for i in 0..p {
         if !is_operation(c, s, 2 * i) {
             return false;
         }
-        i += 1;
     }
     true
 }
@@ -44,14 +42,12 @@ fn operations_front(c: Counts, s: &[u8], p: usize) -> usize
     requires { 2 * p ≤ length s.now }
     ensures { (letter : ℕ) → result ≡ ops_front c letter p s.now }
 {
-    let mut i: usize = 0;
-    while i < p {
+    for i in 0..p {
         if !is_operation(c, s, 2 * i) {
             return i;
         }
-        i += 1;
     }
-    i
+    p
 }
 
 // Whether the four bytes at the front begin an arc: from, letter, to, number of operations. Cost: constant.
@@ -69,7 +65,7 @@ fn are_fields(c: Counts, s: &[u8]) -> bool
 
 // The fault of the first of the four bytes at the front that is out of its range, else the counts. Called only where one is. The
 // arc stands at the place `at` of the file. Cost: constant.
-fn field_fault(c: Counts, s: &[u8], at: usize) -> Reading
+fn field_fault(c: Counts, s: &[u8], at: usize) -> Result<Counts, Fault>
     requires { (4 ≤ length s.now) × (at + length s.now < 18446744073709551616) }
     ensures { result ≡ first_fault (field_tests c at s.now) c }
 {
@@ -81,18 +77,18 @@ fn field_fault(c: Counts, s: &[u8], at: usize) -> Reading
     let to = byte(s, 2);
     let operations = byte(s, 3);
     if !(from < states) {
-        return Reading::Refused(7, at);
+        return Err(Reason::ArcSource.at(at));
     }
     if !((letter == 255) | (letter < letters)) {
-        return Reading::Refused(32, at + 1);
+        return Err(Reason::ArcLetter.at(at + 1));
     }
     if !(to < states) {
-        return Reading::Refused(33, at + 2);
+        return Err(Reason::ArcTarget.at(at + 2));
     }
     if !((1 <= operations) & (operations <= 8)) {
-        return Reading::Refused(34, at + 3);
+        return Err(Reason::ArcOperations.at(at + 3));
     }
-    Reading::Valid(c)
+    Ok(c)
 }
 
 // Whether the arc at the front has no fault. Cost: at most its operations.
@@ -113,26 +109,26 @@ fn is_arc(c: Counts, s: &[u8]) -> bool
 
 // The counts, or the first fault of the arc at the front, which stands at the place `at` of the file.
 // Cost: at most its operations.
-pub fn read_arc(c: Counts, s: &[u8], at: usize) -> Reading
+pub fn read_arc(c: Counts, s: &[u8], at: usize) -> Result<Counts, Fault>
     requires { at + length s.now < 18446744073709551616 }
     ensures { result ≡ first_fault (arc_tests c at s.now) c }
 {
     let size = s.len();
     if size < 4 {
-        return Reading::Refused(1, at);
+        return Err(Reason::EndsInsideAField.at(at));
     }
     if !are_fields(c, s) {
         return field_fault(c, s, at);
     }
     if size < arc_size(s, 0) {
-        return Reading::Refused(1, at + 4);
+        return Err(Reason::EndsInsideAField.at(at + 4));
     }
     let p = byte(s, 3);
     let front = operations_front(c, &s[4..], p);
     if front < p {
-        return Reading::Refused(8, at + 4 + 2 * front);
+        return Err(Reason::Operation.at(at + 4 + 2 * front));
     }
-    Reading::Valid(c)
+    Ok(c)
 }
 
 // Whether the arcs from a place on have no fault, and nothing is after them.
@@ -142,47 +138,40 @@ fn are_arcs(c: Counts, file: &[u8], from: usize) -> bool
     ensures { result ≡ all_hold true (arcs_tests c.arcs c from (drop from file.now)) }
 {
     let mut at = from;
-    let mut i: usize = 0;
-    while i < c.arcs {
+    for _ in 0..c.arcs {
         if !is_arc(c, &file[at..]) {
             return false;
         }
         at += arc_size(file, at);
-        i += 1;
     }
     file.len() <= at
 }
 
 // The first fault of the arcs from a place on and of what is after them, else the counts. Called only where there is one: looking for
 // its place in a pass of its own costs a file without a fault nothing. Cost: one pass over them, up to the fault.
-fn arcs_fault(c: Counts, file: &[u8], from: usize) -> Reading
+fn arcs_fault(c: Counts, file: &[u8], from: usize) -> Result<Counts, Fault>
     requires { from ≤ length file.now }
     ensures { result ≡ first_fault (arcs_tests c.arcs c from (drop from file.now)) c }
 {
     let mut at = from;
-    let mut i: usize = 0;
-    while i < c.arcs {
-        let arc = read_arc(c, &file[at..], at);
-        let Reading::Valid(_) = arc else {
-            return arc;
-        };
+    for _ in 0..c.arcs {
+        read_arc(c, &file[at..], at)?;
         at += arc_size(file, at);
-        i += 1;
     }
     if at < file.len() {
-        return Reading::Refused(9, at);
+        return Err(Reason::BytesAfterTheLastArc.at(at));
     }
-    Reading::Valid(c)
+    Ok(c)
 }
 
 // The counts, or the first fault of the arcs from a place on and of what is after them.
 // Cost: one pass over them, and a second one, up to the fault, where there is one.
-pub fn read_arcs(c: Counts, file: &[u8], from: usize) -> Reading
+pub fn read_arcs(c: Counts, file: &[u8], from: usize) -> Result<Counts, Fault>
     requires { from ≤ length file.now }
     ensures { result ≡ first_fault (arcs_tests c.arcs c from (drop from file.now)) c }
 {
     if !are_arcs(c, file, from) {
         return arcs_fault(c, file, from);
     }
-    Reading::Valid(c)
+    Ok(c)
 }

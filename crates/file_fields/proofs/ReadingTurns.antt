@@ -12,6 +12,7 @@ use lib.Seq.{drop-drop, take_all, drop-cons, get_or-drop}
 use Rattle.automata.specs.Letters.{same_key, unlike}
 use Rattle.automata.specs.Lists.{any}
 use Rattle.file_fields.specs.declared.Counts.{Counts}
+use Rattle.file_fields.specs.declared.Reason.TheVariants.{BytesAfterTheLastArc}
 use Rattle.file_fields.specs.Parts.{letter_bytes, flag_bytes, first_arc, ascending, ascending_front, unlike_front, flags, flags_front, well_op, well_ops, ops_front, arc_size, arc_tests, arcs_tests, all_hold, first_fault}
 use Rattle.file_fields.proofs.TestLaws.{all_append, and_then, fault_append}
 
@@ -125,7 +126,7 @@ module _ (m i : ℕ) (c : Counts) (at : ℕ) (s : List ℕ) where
   unfolding arcs_tests
   arcs-all h = rw (down m i h) (all_append true (arc_tests c at left) (arcs_tests (m - (i + 1)) c (at + arc_size left) (drop (arc_size left) left)) ∙ simp drop-drop)
 
-  pub arcs-end : m ≤ i → arcs_tests (m - i) c at left ≡ (leb (length s - at) 0, 9, at) ∷ []
+  pub arcs-end : m ≤ i → arcs_tests (m - i) c at left ≡ (leb (length s - at) 0, BytesAfterTheLastArc, at) ∷ []
   unfolding arcs_tests
   arcs-end h = rw (none_left m i h, length-drop)
 

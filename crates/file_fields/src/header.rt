@@ -3,7 +3,7 @@ ghost use Rattle.std.specs.Prelude.{◌≡◌, true, ◌&&◌, ◌≤◌, leb, l
 ghost use Rattle.file_fields.specs.Parts.{marked, counts_of, count_tests, header_tests, all_hold, first_fault};
 
 use super::fields::{byte, double};
-use super::{Counts, Reading};
+use super::{Counts, Fault, Reason};
 
 // Whether the mark is MLB. Cost: constant.
 fn has_mark(file: &[u8]) -> bool
@@ -51,43 +51,43 @@ fn within(low: usize, count: usize, high: usize) -> bool
 }
 
 // The fault of the first count that is out of its range, else the counts. Called only where one is. Cost: constant.
-fn count_fault(c: Counts) -> Reading
+fn count_fault(c: Counts) -> Result<Counts, Fault>
     ensures { result ≡ first_fault (count_tests c) c }
 {
     if 64 < c.letters {
-        return Reading::Refused(4, 5);
+        return Err(Reason::HeaderCount.at(5));
     }
     if !within(1, c.states, 256) {
-        return Reading::Refused(4, 6);
+        return Err(Reason::HeaderCount.at(6));
     }
     if !within(1, c.registers, 8) {
-        return Reading::Refused(4, 8);
+        return Err(Reason::HeaderCount.at(8));
     }
     if !within(1, c.symbols, 16) {
-        return Reading::Refused(4, 9);
+        return Err(Reason::HeaderCount.at(9));
     }
     if 2048 < c.arcs {
-        return Reading::Refused(4, 10);
+        return Err(Reason::HeaderCount.at(10));
     }
-    Reading::Valid(c)
+    Ok(c)
 }
 
 // The counts, or the header's first fault. Cost: constant.
-pub fn read_header(file: &[u8]) -> Reading
+pub fn read_header(file: &[u8]) -> Result<Counts, Fault>
     ensures { result ≡ first_fault (header_tests file.now) (counts_of file.now) }
 {
     if file.len() < 12 {
-        return Reading::Refused(1, 0);
+        return Err(Reason::EndsInsideAField.at(0));
     }
     if !has_mark(file) {
-        return Reading::Refused(2, 0);
+        return Err(Reason::Mark.at(0));
     }
     if double(file, 3) != 1 {
-        return Reading::Refused(3, 3);
+        return Err(Reason::Version.at(3));
     }
     let c = read_counts(file);
     if !in_range(c) {
         return count_fault(c);
     }
-    Reading::Valid(c)
+    Ok(c)
 }

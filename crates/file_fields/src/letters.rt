@@ -4,13 +4,6 @@ ghost use Rattle.automata.specs.Counting.{Apart};
 ghost use Rattle.automata.specs.Letters.{key, keys};
 ghost use Rattle.file_fields.specs.Letters.{letter_number};
 
-// A byte as a letter: its number, or none.
-#[derive(Clone, Copy)]
-pub enum Letter {
-    At(u8),
-    None,
-}
-
 // The byte that stands for the same letter in every list: of a capital its small letter, else the byte itself. Cost: constant.
 pub fn key_of(byte: u8) -> u8
     ensures { result ≡ key byte }
@@ -22,34 +15,30 @@ pub fn key_of(byte: u8) -> u8
 }
 
 // The number of the letter that the byte stands for, in whichever case the list has it. Cost: at most one look at each letter.
-fn letter_by_key(letters: &[u8], byte: u8) -> Letter
+fn letter_by_key(letters: &[u8], byte: u8) -> Option<u8>
     requires { length letters.now ≤ 64 }
     ensures { result ≡ letter_number letters.now byte }
 {
     let wanted = key_of(byte);
-    let mut i: usize = 0;
-    while i < letters.len() {
-        if key_of(letters[i]) == wanted {
-            return Letter::At(i as u8);
+    for (i, letter) in letters.iter().enumerate() {
+        if key_of(*letter) == wanted {
+            return Some(i as u8);
         }
-        i += 1;
     }
-    Letter::None
+    None
 }
 
 // The number of the letter that the byte stands for, none where it is no letter of the list. Words are mostly written in the list's own
 // bytes, so these are looked through first. The letters are at most 64, no two of them one letter. Refuses nothing. Cost: at most one look
 // at each letter, two where the byte itself is none.
-pub fn letter_in(letters: &[u8], byte: u8) -> Letter
+pub fn letter_in(letters: &[u8], byte: u8) -> Option<u8>
     requires { (length letters.now ≤ 64) × Apart (keys letters.now) }
     ensures { result ≡ letter_number letters.now byte }
 {
-    let mut i: usize = 0;
-    while i < letters.len() {
-        if letters[i] == byte {
-            return Letter::At(i as u8);
+    for (i, letter) in letters.iter().enumerate() {
+        if *letter == byte {
+            return Some(i as u8);
         }
-        i += 1;
     }
     letter_by_key(letters, byte)
 }

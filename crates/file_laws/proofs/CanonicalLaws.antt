@@ -9,7 +9,7 @@ use lib.Dec.{leb, eqb}
 use lib.ListN.{length, get_or, drop, take, take-append-drop}
 use lib.Seq.{drop-drop, drop-cons}
 use Rattle.file_fields.specs.declared.Counts.{Counts}
-use Rattle.file_fields.specs.declared.Reading.TheVariants.{Valid}
+use Rattle.std.specs.Prelude.{Ok}
 use Rattle.file_fields.specs.Parts.{two, counts_of, letter_bytes, flag_bytes, first_arc, flags, well_op, well_ops, arc_size, arc_tests, arcs_tests}
 use Rattle.format.specs.Reading.{reading_of}
 use Rattle.format.specs.Decoding.{op_of, ops_of, letter_of, arc_of, arcs_of, is_final, decoded, automaton_of}
@@ -130,6 +130,6 @@ module _ (s : List ℕ) (b : Bytes s) where
       ap (λ (d : Counts). header_bytes d ++ (letter_bytes c s ++ (map flag_byte (decoded c s).finals ++ arcs))) (decoded-sizes s c h.there)
       ∙ ap (λ t. header_bytes c ++ t) all ∙ header-same s b h.header
 
-  pub valid-bytes : (d : Counts) → reading_of s ≡ Valid d → bytes_of (automaton_of s) ≡ s
+  pub valid-bytes : (d : Counts) → reading_of s ≡ Ok d → bytes_of (automaton_of s) ≡ s
   unfolding automaton_of
   valid-bytes d e = let h = file-seen s d e in decoded-same (subst (λ (d : Counts). FileSeen d s) (sym h.counts) h)

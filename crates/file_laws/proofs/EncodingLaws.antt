@@ -12,7 +12,7 @@ use lib.Seq.{drop-drop, take_at, drop_at}
 use Rattle.automata.specs.Automaton.{Op, reads, writes, Arc, Automaton, register, symbol, KeepsZero}
 use Rattle.automata.specs.Letters.{unlike}
 use Rattle.file_fields.specs.declared.Counts.{Counts}
-use Rattle.file_fields.specs.declared.Reading.TheVariants.{Valid}
+use Rattle.std.specs.Prelude.{Ok}
 use Rattle.file_fields.specs.Parts.{counts_of, letter_bytes, ascending, flag_bytes, first_arc, flags, operation_tests, well_op, well_ops, arc_size, arc_tests, arcs_tests}
 use Rattle.format.specs.Reading.{reading_of}
 use Rattle.format.specs.Decoding.{op_of, ops_of, letter_of, arc_of, arcs_of, is_final, decoded, automaton_of}
@@ -179,7 +179,7 @@ module _ (x : Automaton) where
   unfolding bytes_of
   header-seen r = record { twelve = omega (arith, bytes-length); mark = refl; version = refl; ranges = subst (λ (d : Counts). Ranges d) (sym counts-back) r }
 
-  pub bytes-valid : Fits x → reading_of s ≡ Valid c
+  pub bytes-valid : Fits x → reading_of s ≡ Ok c
   bytes-valid h = seen-file s c (record {
     counts = counts-back;
     header = header-seen h.ranges;

@@ -9,18 +9,20 @@ use lib.ListN.{take, set}
 use Rattle.automata.specs.Examples.{automaton_t}
 use Rattle.automata.specs.Lists.{Each, any}
 use Rattle.automata.proofs.Laws.{any-iff, each-mem, eqb-iff}
-use Rattle.file_fields.specs.Parts.{number_of}
+use Rattle.file_fields.specs.Parts.{fault}
 use Rattle.file_fields.proofs.Laws.{all_hold_lem}
-use Rattle.file_fields.specs.declared.Reading.{Reading}
-use Rattle.file_fields.specs.declared.Reading.TheVariants.{Valid, Refused}
+use Rattle.std.specs.Prelude.{Ok, Result}
+use Rattle.file_fields.specs.declared.Counts.{Counts}
+use Rattle.file_fields.specs.declared.Fault.{Fault}
+use Rattle.file_fields.specs.declared.Reason.TheVariants.{EndsInsideAField, Mark, Version, HeaderCount, LettersNotAscending, FinalFlag, ArcSource, ArcLetter, ArcTarget, ArcOperations, Operation, BytesAfterTheLastArc}
 use Rattle.format.specs.Reading.{reading_of}
-use Rattle.format.specs.Refusals.{fault_of}
+use Rattle.format.specs.Refusals.{fault_of, told_number}
 use Rattle.file_laws.specs.Wanted.{fault_numbers}
 use Rattle.format.specs.Decoding.{automaton_of}
 use Rattle.format.specs.Encoding.{bytes_of}
 use Rattle.file_laws.specs.Examples.{file_t}
 
-pub valid-T : reading_of file_t ≡ Valid (record { letters = 3; states = 3; registers = 2; symbols = 3; arcs = 5 })
+pub valid-T : reading_of file_t ≡ Ok (record { letters = 3; states = 3; registers = 2; symbols = 3; arcs = 5 })
 unfolding reading_of
 valid-T = refl
 
@@ -47,17 +49,17 @@ spoiled =
     ∷ []
 
 -- their faults, each with its place
-abbrev faults : List Reading
+abbrev faults : List (Result Counts Fault)
 faults =
-    Refused 1 0 ∷ Refused 1 0 ∷ Refused 1 12 ∷ Refused 1 15 ∷ Refused 1 18 ∷ Refused 1 46
-    ∷ Refused 2 0
-    ∷ Refused 3 3
-    ∷ Refused 4 5 ∷ Refused 4 6 ∷ Refused 4 6 ∷ Refused 4 8 ∷ Refused 4 8 ∷ Refused 4 9 ∷ Refused 4 9 ∷ Refused 4 10
-    ∷ Refused 5 13 ∷ Refused 5 12 ∷ Refused 5 13 ∷ Refused 5 12
-    ∷ Refused 6 15
-    ∷ Refused 7 18 ∷ Refused 32 19 ∷ Refused 33 20 ∷ Refused 34 21 ∷ Refused 34 21
-    ∷ Refused 8 22 ∷ Refused 8 22 ∷ Refused 8 22 ∷ Refused 8 22 ∷ Refused 8 34
-    ∷ Refused 9 48
+    fault EndsInsideAField 0 ∷ fault EndsInsideAField 0 ∷ fault EndsInsideAField 12 ∷ fault EndsInsideAField 15 ∷ fault EndsInsideAField 18 ∷ fault EndsInsideAField 46
+    ∷ fault Mark 0
+    ∷ fault Version 3
+    ∷ fault HeaderCount 5 ∷ fault HeaderCount 6 ∷ fault HeaderCount 6 ∷ fault HeaderCount 8 ∷ fault HeaderCount 8 ∷ fault HeaderCount 9 ∷ fault HeaderCount 9 ∷ fault HeaderCount 10
+    ∷ fault LettersNotAscending 13 ∷ fault LettersNotAscending 12 ∷ fault LettersNotAscending 13 ∷ fault LettersNotAscending 12
+    ∷ fault FinalFlag 15
+    ∷ fault ArcSource 18 ∷ fault ArcLetter 19 ∷ fault ArcTarget 20 ∷ fault ArcOperations 21 ∷ fault ArcOperations 21
+    ∷ fault Operation 22 ∷ fault Operation 22 ∷ fault Operation 22 ∷ fault Operation 22 ∷ fault Operation 34
+    ∷ fault BytesAfterTheLastArc 48
     ∷ []
 
 pub refused : map reading_of spoiled ≡ faults
@@ -65,12 +67,12 @@ unfolding reading_of
 refused = refl
 
 -- each number of a file's fault is that of one of them
-each-told : Each (λ b. b ≡ true) (map (λ n. any (λ r. eqb n (number_of r)) faults) fault_numbers)
+each-told : Each (λ b. b ≡ true) (map (λ n. any (λ r. eqb n (told_number r)) faults) fault_numbers)
 unfolding any
-each-told = (all_hold_lem true (map (λ n. any (λ r. eqb n (number_of r)) faults) fault_numbers) refl).1
+each-told = (all_hold_lem true (map (λ n. any (λ r. eqb n (told_number r)) faults) fault_numbers) refl).1
 
 pub each-occurs : (n : ℕ) → Memᴰ n fault_numbers → (s : List ℕ) × (fault_of s ≡ n)
 each-occurs n m =
-    let one = (any-iff (λ r. eqb n (number_of r)) faults).0 (rw (each-mem (λ (k : ℕ). any (λ r. eqb k (number_of r)) faults ≡ true) each-told m) tt) in
-    let whose = Memᴰ.of_map reading_of spoiled (subst (λ (l : List Reading). Memᴰ one.0 l) (sym refused) one.1) in
-    (whose.0, ap number_of whose.2 ∙ sym ((eqb-iff n (number_of one.0)).0 one.2))
+    let one = (any-iff (λ r. eqb n (told_number r)) faults).0 (rw (each-mem (λ (k : ℕ). any (λ r. eqb k (told_number r)) faults ≡ true) each-told m) tt) in
+    let whose = Memᴰ.of_map reading_of spoiled (subst (λ (l : List (Result Counts Fault)). Memᴰ one.0 l) (sym refused) one.1) in
+    (whose.0, ap told_number whose.2 ∙ sym ((eqb-iff n (told_number one.0)).0 one.2))

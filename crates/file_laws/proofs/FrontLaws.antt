@@ -11,8 +11,9 @@ use lib.ListN.{length, get_or, drop, length-drop, length-append, get_or-append}
 use lib.Seq.{take-append-le, drop-append-le}
 use Rattle.automata.specs.Letters.{unlike}
 use Rattle.file_fields.specs.declared.Counts.{Counts}
-use Rattle.file_fields.specs.declared.Reading.TheVariants.{Valid, Refused}
-use Rattle.file_fields.specs.Parts.{two, marked, counts_of, part, letter_bytes, ascending, first_arc, flags, field_tests, well_op, well_ops, arc_size, arc_tests, arcs_tests, header_tests, first_fault}
+use Rattle.file_fields.specs.declared.Reason.TheVariants.{BytesAfterTheLastArc, EndsInsideAField}
+use Rattle.std.specs.Prelude.{Ok}
+use Rattle.file_fields.specs.Parts.{two, marked, counts_of, part, letter_bytes, ascending, first_arc, flags, field_tests, well_op, well_ops, arc_size, arc_tests, arcs_tests, header_tests, first_fault, fault}
 use Rattle.format.specs.Reading.{reading_of}
 use Rattle.format.specs.Limits.{Ranges}
 use Rattle.automata.proofs.Laws.{each-split}
@@ -57,12 +58,12 @@ module _ (t : List ℕ) (more : 0 < length t) where
 
   -- ---- arcs
   module _ (c : Counts) where
-    arcs-after : (m at : ℕ) (l : List ℕ) → Hold (arcs_tests m c at l) → first_fault (arcs_tests m c at (l ++ t)) c ≡ Refused 9 (at + length l)
+    arcs-after : (m at : ℕ) (l : List ℕ) → Hold (arcs_tests m c at l) → first_fault (arcs_tests m c at (l ++ t)) c ≡ fault BytesAfterTheLastArc (at + length l)
     unfolding arcs_tests first_fault
     arcs-after zero at l h =
         let none = leb-true (length l) 0 h.0 in
         let e : at ≡ at + length l = omega arith in
-        rw (lt-leb (length (l ++ t)) 0 (omega (arith, length-append l t))) (ap (λ (n : ℕ). Refused 9 n) e)
+        rw (lt-leb (length (l ++ t)) 0 (omega (arith, length-append l t))) (ap (λ (n : ℕ). fault BytesAfterTheLastArc n) e)
     arcs-after (suc m) at l h =
         let q = each-split Holds (arc_tests c at l) (arcs_tests m c (at + arc_size l) (drop (arc_size l) l)) h in
         let a = arc-seen c at l q.0 in
@@ -81,11 +82,11 @@ module _ (t : List ℕ) (more : 0 < length t) where
           arc-ops c l four a.whole ∙ a.ops,
           rest-front l four a.whole,
           size,
-        ) (arcs-after m (at + arc_size l) (drop (arc_size l) l) q.1 ∙ ap (λ (n : ℕ). Refused 9 n) end)
+        ) (arcs-after m (at + arc_size l) (drop (arc_size l) l) q.1 ∙ ap (λ (n : ℕ). fault BytesAfterTheLastArc n) end)
 
     -- cut short: refused with 1, at some place
     abbrev CutArcs : ℕ → ℕ → List ℕ → Type 0
-    CutArcs m at l = (place : ℕ) × (first_fault (arcs_tests m c at l) c ≡ Refused 1 place)
+    CutArcs m at l = (place : ℕ) × (first_fault (arcs_tests m c at l) c ≡ fault EndsInsideAField place)
 
     arcs-cut : (m at : ℕ) (l : List ℕ) → Hold (arcs_tests m c at (l ++ t)) → CutArcs m at l
     unfolding arcs_tests first_fault
@@ -136,10 +137,10 @@ module _ (t : List ℕ) (more : 0 < length t) where
     version-front : 12 ≤ length s → two longer 3 ≡ two s 3
     version-front h = rw (front 3 (omega arith), front 4 (omega arith))
 
-    pub longer-refused : (c : Counts) → reading_of s ≡ Valid c → reading_of longer ≡ Refused 9 (length s)
+    pub longer-refused : (c : Counts) → reading_of s ≡ Ok c → reading_of longer ≡ fault BytesAfterTheLastArc (length s)
     unfolding reading_of first_fault
     longer-refused c e =
-        Goes-on_with (header_tests longer) (counts_of longer) (Hold-valid (header_tests longer) (counts_of longer) (seen-header longer header) ∙ ap Valid (counts-front f.header.twelve ∙ f.counts)) (λ (d : Counts). body_tests d longer)
+        Goes-on_with (header_tests longer) (counts_of longer) (Hold-valid (header_tests longer) (counts_of longer) (seen-header longer header) ∙ ap Ok (counts-front f.header.twelve ∙ f.counts)) (λ (d : Counts). body_tests d longer)
         ∙ rw (
           le-leb (12 + c.letters) (length longer) (omega (arith, f.there, more_bytes)),
           ap ascending (part-front 12 c.letters s (omega (arith, f.there))) ∙ f.rising,
@@ -147,7 +148,7 @@ module _ (t : List ℕ) (more : 0 < length t) where
           le-leb (first_arc c) (length longer) (omega (arith, f.there, more_bytes)),
           ap flags (part-front (12 + c.letters) c.states s f.there) ∙ f.flags,
           drop-append-le (first_arc c) s t f.there,
-        ) (arcs-after c c.arcs (first_arc c) (drop (first_arc c) s) f.arcs ∙ ap (λ (n : ℕ). Refused 9 n) end)
+        ) (arcs-after c c.arcs (first_arc c) (drop (first_arc c) s) f.arcs ∙ ap (λ (n : ℕ). fault BytesAfterTheLastArc n) end)
       where
         f : FileSeen c s
         f = file-seen s c e
@@ -165,7 +166,7 @@ module _ (t : List ℕ) (more : 0 < length t) where
               ranges = subst (λ (d : Counts). Ranges d) (sym (counts-front h)) f.header.ranges;
             }
 
-    pub shorter-refused : (c : Counts) → reading_of longer ≡ Valid c → (place : ℕ) × (reading_of s ≡ Refused 1 place)
+    pub shorter-refused : (c : Counts) → reading_of longer ≡ Ok c → (place : ℕ) × (reading_of s ≡ fault EndsInsideAField place)
     unfolding reading_of first_fault
     shorter-refused c e = start (leb 12 (length s)) refl
       where
@@ -181,7 +182,7 @@ module _ (t : List ℕ) (more : 0 < length t) where
         }
 
         Cut : Type 0
-        Cut = (place : ℕ) × (first_fault (body_tests c s) c ≡ Refused 1 place)
+        Cut = (place : ℕ) × (first_fault (body_tests c s) c ≡ fault EndsInsideAField place)
 
         arcs : first_arc c ≤ length s → Hold (arcs_tests c.arcs c (first_arc c) (drop (first_arc c) s ++ t))
         arcs h = subst (λ l. Hold (arcs_tests c.arcs c (first_arc c) l)) (drop-append-le (first_arc c) s t h) f.arcs
@@ -206,10 +207,10 @@ module _ (t : List ℕ) (more : 0 < length t) where
         to-flags false g = (12, rw g)
         to-flags true g = to-arcs (leb-true _ _ g) (leb (first_arc c) (length s)) refl
 
-        start : (b : Bool) → leb 12 (length s) ≡ b → (place : ℕ) × (reading_of s ≡ Refused 1 place)
+        start : (b : Bool) → leb 12 (length s) ≡ b → (place : ℕ) × (reading_of s ≡ fault EndsInsideAField place)
         start false g = (0, rw g)
         start true g =
             let h = leb-true _ _ g in
             let r = to-flags (leb (12 + c.letters) (length s)) refl in
-            let valid = Hold-valid (header_tests s) (counts_of s) (seen-header s (header h)) ∙ ap Valid (sym (counts-front h) ∙ f.counts) in
+            let valid = Hold-valid (header_tests s) (counts_of s) (seen-header s (header h)) ∙ ap Ok (sym (counts-front h) ∙ f.counts) in
             (r.0, Goes-on_with (header_tests s) (counts_of s) valid (λ (d : Counts). body_tests d s) ∙ r.1)

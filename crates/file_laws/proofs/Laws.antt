@@ -6,7 +6,7 @@ pub use Rattle.file_laws.proofs.FaultLaws.{number-between}
 -- of a file with a fault behind its header, the counts are in their ranges
 pub use Rattle.file_laws.proofs.PlaceLaws.{behind-header}
 -- where each test decides its condition, the first test that holds is the first condition that holds (format's specs/Refusals.antt)
-pub use Rattle.file_laws.proofs.Refusals.{Decide, Decides, NoneHolds, Outcome, at_least, decided, either_less, fault_decided, first-exactly, first_some, has-fault, less-decided, less-iff, no_fault, none_first, reach-decided, refused-or_not}
+pub use Rattle.file_laws.proofs.Refusals.{Decide, Decides, NoneHolds, Outcome, at_least, automaton-one, decided, either_less, fault_decided, first-exactly, first_some, has-fault, less-decided, less-iff, no_fault, none_first, number-above, number-one, reach-decided, refused-or_not}
 -- what is so of a valid file: its automaton has the counts that reading answers and is within the limits, its arcs stand whole, and it is no longer than 41,292 bytes
 pub use Rattle.file_laws.proofs.ValidLaws.{file-seen, lent_alphabet, valid-alphabet, valid-arcs, valid-decoded, valid-fits, valid-letters, valid-lies, valid-longest, valid-ranges, valid-sizes, valid-well_formed}
 -- the bytes of an automaton within the limits are a valid file, from which the same automaton is read

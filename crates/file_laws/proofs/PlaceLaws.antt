@@ -1,5 +1,5 @@
 -- PlaceLaws: the place of a fault lies in the file, or is its end; and where it is behind the header, the header has no fault.
-use mathlib.Core.Path.{◌≡◌, refl}
+use mathlib.Core.Path.{◌≡◌, refl, ap}
 use mathlib.Core.Bool.{Bool, true, false, cond, not}
 use mathlib.Core.List.{List, [], ◌∷◌, ◌++◌}
 use Prim.Native.Nat.{ℕ, zero, suc, ◌+◌, ◌<◌, ◌≤◌}
@@ -8,9 +8,11 @@ use borrow.Author.Tests.{leb-true}
 use lib.Dec.{leb, ltb}
 use lib.ListN.{length, get_or, drop, length-drop}
 use Rattle.file_fields.specs.declared.Counts.{Counts}
-use Rattle.file_fields.specs.declared.Reading.TheVariants.{Refused}
-use Rattle.file_fields.specs.Parts.{counts_of, letter_bytes, flag_bytes, first_arc, ascending_front, unlike_front, flags_front, well_op, ops_front, arc_size, arc_tests, arcs_tests, header_tests, first_fault}
-use Rattle.format.specs.Reading.{file_tests, reading_of}
+use Rattle.file_fields.specs.declared.Fault.{Fault}
+use Rattle.file_fields.specs.declared.Reason.{Reason}
+use Rattle.std.specs.Prelude.{Result}
+use Rattle.file_fields.specs.Parts.{counts_of, letter_bytes, flag_bytes, first_arc, ascending_front, unlike_front, flags_front, well_op, ops_front, arc_size, arc_tests, arcs_tests, header_tests, first_fault, fault}
+use Rattle.format.specs.Reading.{file_tests, reading_of, told}
 use Rattle.format.specs.Limits.{Ranges}
 use Rattle.format.proofs.Laws.{body_tests, header-seen}
 use Rattle.automata.specs.Letters.{same_key}
@@ -57,26 +59,26 @@ ops-most c letter (suc p) l = go (well_op c letter (get_or l 0 0) (get_or l 1 0)
     go false h = omega arith
 
 -- ---- tests whose places are at most n where those before them hold
-abbrev Inside : ℕ → List (Bool × ℕ × ℕ) → Type 0
+abbrev Inside : ℕ → List (Bool × Reason × ℕ) → Type 0
 Inside n [] = Unit {0}
 Inside n (t ∷ l) = (t.2 ≤ n) × (t.0 ≡ true → Inside n l)
 
-inside-append : (n : ℕ) (l r : List (Bool × ℕ × ℕ)) → Inside n l → (Hold l → Inside n r) → Inside n (l ++ r)
+inside-append : (n : ℕ) (l r : List (Bool × Reason × ℕ)) → Inside n l → (Hold l → Inside n r) → Inside n (l ++ r)
 inside-append n [] r h f = f tt
 inside-append n (t ∷ l) r h f = (h.0, λ e. inside-append n l r (h.1 e) (λ g. f (e, g)))
 
-inside-place : (n : ℕ) (l : List (Bool × ℕ × ℕ)) (c : Counts) {k place : ℕ} → Inside n l → first_fault l c ≡ Refused k place → place ≤ n
+inside-place : (n : ℕ) (l : List (Bool × Reason × ℕ)) (c : Counts) {k : Reason} {place : ℕ} → Inside n l → first_fault l c ≡ fault k place → place ≤ n
 unfolding first_fault
 inside-place n [] c h e = let z : ◌≡◌ {A = ℕ} 0 1 = cc in absurd (omega arith)
 inside-place n ((true, k, q) ∷ l) c h e = inside-place n l c (h.1 refl) e
-inside-place n ((false, k, q) ∷ l) c {place = place} h e = let same : q ≡ place = cc in omega (arith, h.0)
+inside-place n ((false, k, q) ∷ l) c {place = place} h e = let same : q ≡ place = ap (λ (a : Result Counts Fault). (told a).place) e in omega (arith, h.0)
 
 -- tests with places below k hold where the fault's place isn't
-below-hold : (k : ℕ) (l r : List (Bool × ℕ × ℕ)) (c : Counts) {n place : ℕ} → Each (λ t. t.2 < k) l → k ≤ place → first_fault (l ++ r) c ≡ Refused n place → Hold l
+below-hold : (k : ℕ) (l r : List (Bool × Reason × ℕ)) (c : Counts) {n : Reason} {place : ℕ} → Each (λ t. t.2 < k) l → k ≤ place → first_fault (l ++ r) c ≡ fault n place → Hold l
 unfolding first_fault
 below-hold k [] r c h b e = tt
 below-hold k ((true, m, q) ∷ l) r c h b e = (refl, below-hold k l r c h.1 b e)
-below-hold k ((false, m, q) ∷ l) r c {place = place} h b e = let same : q ≡ place = cc in absurd (omega (arith, h.0))
+below-hold k ((false, m, q) ∷ l) r c {place = place} h b e = let same : q ≡ place = ap (λ (a : Result Counts Fault). (told a).place) e in absurd (omega (arith, h.0))
 
 arcs-inside : (n : ℕ) (c : Counts) (m at : ℕ) (l : List ℕ) → at + length l ≡ n → Inside n (arcs_tests m c at l)
 unfolding arcs_tests
@@ -133,12 +135,12 @@ module _ (s : List ℕ) where
     ),
   )
 
-  pub place-most : {n place : ℕ} → reading_of s ≡ Refused n place → place ≤ length s
+  pub place-most : {r : Reason} {place : ℕ} → reading_of s ≡ fault r place → place ≤ length s
   unfolding reading_of
   place-most e =
       inside-place (length s) (file_tests s) (counts_of s) (inside-append (length s) (header_tests s) (body_tests (counts_of s) s) header-inside (λ h. body_inside (counts_of s) (leb-true 12 (length s) h.0))) e
 
-  pub behind-header : {n place : ℕ} → reading_of s ≡ Refused n place → 12 ≤ place → Ranges (counts_of s)
+  pub behind-header : {r : Reason} {place : ℕ} → reading_of s ≡ fault r place → 12 ≤ place → Ranges (counts_of s)
   unfolding reading_of
   behind-header e b =
       let places : Each (λ t. t.2 < 12) (header_tests s) = (omega arith, (omega arith, (omega arith, (omega arith, (omega arith, (omega arith, (omega arith, (omega arith, tt)))))))) in

@@ -10,7 +10,7 @@ use lib.ListN.{length, drop, take, length-drop, length-take, length-map}
 use Rattle.automata.specs.Automaton.{Automaton, WellFormed}
 use Rattle.automata.specs.Letters.{unlike}
 use Rattle.file_fields.specs.declared.Counts.{Counts}
-use Rattle.file_fields.specs.declared.Reading.TheVariants.{Valid}
+use Rattle.std.specs.Prelude.{Ok}
 use Rattle.file_fields.specs.Parts.{counts_of, letter_bytes, ascending, flag_bytes, first_arc, flags, arc_size, arcs_tests, header_tests}
 use Rattle.format.specs.Reading.{file_tests, reading_of}
 use Rattle.format.specs.Decoding.{arcs_of, is_final, decoded, automaton_of}
@@ -34,7 +34,7 @@ pub record FileSeen (c : Counts) (s : List ℕ) : Type 0 where
   pub flags : flags (flag_bytes c s) ≡ true
   pub arcs : Hold (arcs_tests c.arcs c (first_arc c) (drop (first_arc c) s))
 
-pub file-seen : (s : List ℕ) (c : Counts) → reading_of s ≡ Valid c → FileSeen c s
+pub file-seen : (s : List ℕ) (c : Counts) → reading_of s ≡ Ok c → FileSeen c s
 unfolding reading_of
 file-seen s c e =
     let v = valid-hold (file_tests s) (counts_of s) e in
@@ -51,9 +51,9 @@ file-seen s c e =
       arcs = body.1.1.1.1.1;
     })
 
-pub seen-file : (s : List ℕ) (c : Counts) → FileSeen c s → reading_of s ≡ Valid c
+pub seen-file : (s : List ℕ) (c : Counts) → FileSeen c s → reading_of s ≡ Ok c
 unfolding reading_of
-seen-file s c f = Hold-valid (file_tests s) (counts_of s) (each-join Holds (header_tests s) (body_tests (counts_of s) s) (seen-header s f.header) body) ∙ ap Valid f.counts
+seen-file s c f = Hold-valid (file_tests s) (counts_of s) (each-join Holds (header_tests s) (body_tests (counts_of s) s) (seen-header s f.header) body) ∙ ap Ok f.counts
   where
     all : Hold (body_tests c s)
     all = (le-leb (12 + c.letters) (length s) (omega (arith, f.there)), (f.rising, (f.unlike, (le-leb _ _ f.there, (f.flags, f.arcs)))))
@@ -78,7 +78,7 @@ module _ (s : List ℕ) (c : Counts) where
       let a = arcs-seen c c.arcs (first_arc c) (drop (first_arc c) s) r.symbols f.arcs in
       fits_by (decoded c s) (subst (λ (d : Counts). Ranges d) same r) f.rising ((unlike-iff (letter_bytes c s)).0 (rw f.unlike tt)) (subst (λ (d : Counts). Each (ArcFits d) (decoded c s).arcs) same a.fit)
 
-  module _ (e : reading_of s ≡ Valid c) where
+  module _ (e : reading_of s ≡ Ok c) where
     abbrev seen : FileSeen c s
     seen = file-seen s c e
 

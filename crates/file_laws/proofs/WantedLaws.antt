@@ -11,7 +11,9 @@ use Rattle.automata.specs.Letters.{key, keys, same_key, unlike}
 use Rattle.automata.specs.Lists.{any}
 use Rattle.automata.proofs.Laws.{and-iff, eqb-iff, listed-iff, not_iff, or_iff}
 use Rattle.file_fields.specs.declared.Counts.{Counts}
-use Rattle.file_fields.specs.Parts.{arc_size, arcs_tests, ascending, ascending_front, counts_of, first_arc, first_fault, flag_bytes, flags, flags_at, flags_front, letter_bytes, marked, ops_front, unlike_front, well_op, well_ops}
+use Rattle.file_fields.specs.declared.Reason.{Reason}
+use Rattle.file_fields.specs.declared.Reason.TheVariants.{FinalFlag, LettersNotAscending, Operation}
+use Rattle.file_fields.specs.Parts.{arc_size, arcs_tests, ascending, ascending_front, counts_of, first_arc, first_fault, flag_bytes, flags, flags_at, flags_front, letter_bytes, marked, ops_front, unlike_front, well_op, well_ops, number_of}
 use Rattle.format.specs.Reading.{file_tests, reading_of, told}
 use Rattle.format.specs.Refusals.{FirstHolds}
 use Rattle.file_laws.specs.Wanted.{IsOperation, Within, each_arc, each_flag, each_letter, each_operation, each_unlike, faults, wanted}
@@ -62,24 +64,24 @@ other_letters x l =
 
 -- ---- one test after the other
 -- the first thing wanted that is not so has the number and the place that the tests' answer tells
-pub record Finds (wants : List (Type 0 × ℕ × ℕ)) (tests : List (Bool × ℕ × ℕ)) (c : Counts) : Type 0 where
+pub record Finds (wants : List (Type 0 × ℕ × ℕ)) (tests : List (Bool × Reason × ℕ)) (c : Counts) : Type 0 where
   pub found : let r = told (first_fault tests c) in FirstHolds (map (λ (w : Type 0 × ℕ × ℕ). (¬ w.0, w.1, w.2)) wants) r.number r.place
 
-step : {P : Type 0} {ws : List (Type 0 × ℕ × ℕ)} {ts : List (Bool × ℕ × ℕ)} {c : Counts} {n place : ℕ} {b : Bool} → Tells b P
-    → (P → Finds ws ts c) → Finds ((P, n, place) ∷ ws) ((b, n, place) ∷ ts) c
+step : {P : Type 0} {ws : List (Type 0 × ℕ × ℕ)} {ts : List (Bool × Reason × ℕ)} {c : Counts} {r : Reason} {place : ℕ} {b : Bool} → Tells b P
+    → (P → Finds ws ts c) → Finds ((P, number_of r, place) ∷ ws) ((b, r, place) ∷ ts) c
 unfolding first_fault
 step {b = true} f rest = record { found = inr (λ q. q (f.iff.0 tt), (rest (f.iff.0 tt)).found) }
 step {b = false} f rest = record { found = inl (f.iff.1, refl, refl) }
 
 -- many things of one kind: one test tells whether all are so, and its place is that of the first that is not. Here the first of them
-many : {P : Type 0} {ws : List (Type 0 × ℕ × ℕ)} {ts : List (Bool × ℕ × ℕ)} {c : Counts} {n : ℕ} {b : Bool} (all : Bool) (here next : ℕ) (place : Bool → ℕ) → Tells b P
-    → here ≡ place false → next ≡ place true → Finds ws ((all, n, next) ∷ ts) c → Finds ((P, n, here) ∷ ws) ((b && all, n, place b) ∷ ts) c
+many : {P : Type 0} {ws : List (Type 0 × ℕ × ℕ)} {ts : List (Bool × Reason × ℕ)} {c : Counts} {r : Reason} {b : Bool} (all : Bool) (here next : ℕ) (place : Bool → ℕ) → Tells b P
+    → here ≡ place false → next ≡ place true → Finds ws ((all, r, next) ∷ ts) c → Finds ((P, number_of r, here) ∷ ws) ((b && all, r, place b) ∷ ts) c
 unfolding first_fault
-many {ws = ws} {ts = ts} {c = c} {n = n} {b = true} all here next place f e g h = record { found = inr (λ q. q (f.iff.0 tt), (subst (λ (p : ℕ). Finds ws ((all, n, p) ∷ ts) c) g h).found) }
+many {ws = ws} {ts = ts} {c = c} {r = r} {b = true} all here next place f e g h = record { found = inr (λ q. q (f.iff.0 tt), (subst (λ (p : ℕ). Finds ws ((all, r, p) ∷ ts) c) g h).found) }
 many {b = false} all here next place f e g h = record { found = inl (f.iff.1, refl, e) }
 
-module _ (c : Counts) (ws : List (Type 0 × ℕ × ℕ)) (ts : List (Bool × ℕ × ℕ)) (rest : Finds ws ts c) where
-  letters-found : (at : ℕ) (l : List ℕ) → Finds (each_letter at l ++ ws) ((ascending l, 5, at + ascending_front l) ∷ ts) c
+module _ (c : Counts) (ws : List (Type 0 × ℕ × ℕ)) (ts : List (Bool × Reason × ℕ)) (rest : Finds ws ts c) where
+  letters-found : (at : ℕ) (l : List ℕ) → Finds (each_letter at l ++ ws) ((ascending l, LettersNotAscending, at + ascending_front l) ∷ ts) c
   unfolding each_letter ascending ascending_front first_fault
   letters-found at [] = record { found = rest.found }
   letters-found at (x ∷ []) = record { found = rest.found }
@@ -87,21 +89,21 @@ module _ (c : Counts) (ws : List (Type 0 × ℕ × ℕ)) (ts : List (Bool × ℕ
       let k = ascending_front (y ∷ l) in
       many (ascending (y ∷ l)) (at + 1) (at + 1 + k) (λ b. at + suc (cond b k 0)) (less x y) (omega arith) (omega arith) (letters-found (at + 1) (y ∷ l))
 
-  unlike-found : (at : ℕ) (l : List ℕ) → Finds (each_unlike at l ++ ws) ((unlike l, 5, at + unlike_front l) ∷ ts) c
+  unlike-found : (at : ℕ) (l : List ℕ) → Finds (each_unlike at l ++ ws) ((unlike l, LettersNotAscending, at + unlike_front l) ∷ ts) c
   unfolding each_unlike unlike unlike_front first_fault
   unlike-found at [] = record { found = rest.found }
   unlike-found at (x ∷ l) =
       let k = unlike_front l in
       many (unlike l) at (at + 1 + k) (λ b. at + cond b (suc k) 0) (other_letters x l) (omega arith) (omega arith) (unlike-found (at + 1) l)
 
-  flags-found : (at : ℕ) (l : List ℕ) → Finds (each_flag at l ++ ws) ((flags l, 6, at + flags_front l) ∷ ts) c
+  flags-found : (at : ℕ) (l : List ℕ) → Finds (each_flag at l ++ ws) ((flags l, FinalFlag, at + flags_front l) ∷ ts) c
   unfolding each_flag flags flags_front first_fault
   flags-found at [] = record { found = rest.found }
   flags-found at (x ∷ l) =
       let k = flags_front l in
       many (flags l) at (at + 1 + k) (λ b. at + cond b (suc k) 0) (most x 1) (omega arith) (omega arith) (flags-found (at + 1) l)
 
-  operations_found : (letter p at : ℕ) (l : List ℕ) → Finds (each_operation c p at l ++ ws) ((well_ops c letter p l, 8, at + 2 * ops_front c letter p l) ∷ ts) c
+  operations_found : (letter p at : ℕ) (l : List ℕ) → Finds (each_operation c p at l ++ ws) ((well_ops c letter p l, Operation, at + 2 * ops_front c letter p l) ∷ ts) c
   unfolding each_operation well_ops ops_front first_fault
   operations_found letter zero at l = record { found = rest.found }
   operations_found letter (suc p) at l =

@@ -1,25 +1,25 @@
 // The numbers of letters: the places of their bytes in a list, and the new number of a letter.
 ghost use Rattle.std.specs.Prelude.{◌≡◌, ◌≤◌, ◌<◌, length, take};
-ghost use Rattle.automata.specs.Words.{place, places};
+ghost use Rattle.std.specs.List.{position};
+ghost use Rattle.automata.specs.Letters.{same_key};
+ghost use Rattle.automata.specs.Words.{places};
 ghost use Rattle.relettering.specs.Relettering.{letter_by};
 
 use file_fields::fields::byte;
 use file_fields::letters::key_of;
 
-// The place in the list of the letter that the byte stands for; behind the last where it is not there. Refuses nothing. Cost: at most one
-// look at each letter.
-pub fn place_of(letters: &[u8], byte: u8) -> usize
-    ensures { (result ≡ place letters.now byte) × (result ≤ length letters.now) }
+// The place in the list of the letter that the byte stands for, where it is there. Refuses nothing. Cost: at most one look at each letter.
+pub fn place_of(letters: &[u8], byte: u8) -> Option<usize>
+    ensures { result ≡ position (same_key byte) letters.now }
 {
     let wanted = key_of(byte);
-    let mut i: usize = 0;
-    while i < letters.len() {
-        if key_of(letters[i]) == wanted {
-            return i;
+    // kept: `position` with a closure has the same calls compiled otherwise, and intersecting small costs 3.0 % more instead of 2.5 %
+    for (i, letter) in letters.iter().enumerate() {
+        if wanted == key_of(*letter) {
+            return Some(i);
         }
-        i += 1;
     }
-    letters.len()
+    None
 }
 
 // The new numbers of the letters `own`: their places in the list `all`. What stands behind them means nothing. Refuses nothing. Cost: the
@@ -29,10 +29,8 @@ pub fn number_letters(own: &[u8], all: &[u8]) -> [u8; 64]
     ensures { take (length own.now) result ≡ places all.now own.now }
 {
     let mut new = [0; 64];
-    let mut i: usize = 0;
-    while i < own.len() {
-        new[i] = place_of(all, own[i]) as u8;
-        i += 1;
+    for (i, letter) in own.iter().enumerate() {
+        new[i] = place_of(all, *letter).unwrap_or(all.len()) as u8;
     }
     new
 }

@@ -16,7 +16,7 @@ use Rattle.automata.proofs.Laws.{same-many}
 use Rattle.relettering.specs.Relettering.{letter_by, relettered, relettered_arc, with_letters}
 use Rattle.relettering.proofs.Laws.{Inside, first-inside, joined-apart, joined_same, new-inside, relettered-formed, relettered-own, second-inside}
 use Rattle.file_fields.specs.declared.Counts.{Counts}
-use Rattle.file_fields.specs.declared.Reading.TheVariants.{Valid}
+use Rattle.std.specs.Prelude.{Ok}
 use Rattle.file_fields.specs.Parts.{ascending, counts_of}
 use Rattle.format.specs.Decoding.{automaton_of}
 use Rattle.format.specs.Limits.{Fits}
@@ -24,8 +24,7 @@ use Rattle.format.specs.Reading.{reading_of}
 use Rattle.file_letters.proofs.Laws.{joined-ascends}
 use Rattle.file_laws.proofs.Laws.{file-seen, lent_alphabet, valid-fits, valid-letters, valid-sizes}
 use Rattle.file_pair.specs.Lettered.{Lettered, Numbers, OverBoth}
-use Rattle.file_pair.specs.Pair.{Joinable, files_of, letters_of}
-use Rattle.file_pair.specs.declared.Files.TheVariants.{Valid as BothValid}
+use Rattle.file_pair.specs.Pair.{Joinable, both_valid, files_of, letters_of}
 use Rattle.file_pair.proofs.PairLaws.{agree_same, files-valid}
 
 -- an automaton within the limits is so with other letters that a file can list
@@ -50,7 +49,7 @@ pub lettered-few : {a b : Counts} {s t one two all : List ℕ} → Lettered a b 
 lettered-few {a} {b} {s} {t} {one} {two} l = (numbers-few a.letters one (valid-letters s a l.first).0 l.numbers₁, numbers-few b.letters two (valid-letters t b l.second).0 l.numbers₂)
 
 -- a valid file has as many letters as its counts say
-pub letters-many : (s : List ℕ) (a : Counts) → reading_of s ≡ Valid a → letters (automaton_of s) ≡ a.letters
+pub letters-many : (s : List ℕ) (a : Counts) → reading_of s ≡ Ok a → letters (automaton_of s) ≡ a.letters
 letters-many s a e = ap (λ (c : Counts). c.letters) (valid-sizes s a e)
 
 -- the same by the counts that the files' headers say
@@ -120,13 +119,13 @@ module _ {a b : Counts} {s t : List ℕ} (j : Joinable a b s t) where
 
 -- ---- two valid files whose letter lists agree
 -- have as many letters together as the first
-pub agree_many : (s t : List ℕ) (a : Counts) → reading_of s ≡ Valid a → true ≡ same_letters (automaton_of s) (automaton_of t) → length (letters_of s t) ≡ a.letters
+pub agree_many : (s t : List ℕ) (a : Counts) → reading_of s ≡ Ok a → true ≡ same_letters (automaton_of s) (automaton_of t) → length (letters_of s t) ≡ a.letters
 agree_many s t a e agree = ap length (joined_same (automaton_of s).alphabet (automaton_of t).alphabet (agree_same (automaton_of s) (automaton_of t) agree)) ∙ letters-many s a e
 
 -- so they can be joined
-pub agree_joinable : {a b : Counts} (s t : List ℕ) → files_of s t ≡ BothValid true a b → Joinable a b s t
+pub agree_joinable : {a b : Counts} (s t : List ℕ) → files_of s t ≡ both_valid true a b → Joinable a b s t
 agree_joinable {a} s t e = let v = files-valid s t e in record { first = v.0; second = v.1; few = omega (arith, agree_many s t a v.0 v.2, (valid-letters s a v.0).0) }
 
 -- and no number changes, where the letters are lent as the part of the first up to their end
-pub lent_over : {a b : Counts} (s t : List ℕ) (end : ℕ) → files_of s t ≡ BothValid true a b → end ≡ 12 + a.letters → OverBoth a b s t [] [] (take (end - 12) (drop 12 s))
+pub lent_over : {a b : Counts} (s t : List ℕ) (end : ℕ) → files_of s t ≡ both_valid true a b → end ≡ 12 + a.letters → OverBoth a b s t [] [] (take (end - 12) (drop 12 s))
 lent_over {a} s t end e at = let v = files-valid s t e in rw (lent_alphabet s a v.0 end at) (alike-over (agree_joinable s t e) (agree_same (automaton_of s) (automaton_of t) v.2))

@@ -1,10 +1,9 @@
 -- Lettered: two valid files, and the letters that they are joined or compared over (document 02, change 6): for each file a list of the new
 -- numbers of its letters. A number beyond that list is left alone, so the empty list says that no number changes.
-use Rattle.std.specs.Prelude.{◌≡◌, ◌⊎◌, List, ℕ, length}
+use Rattle.std.specs.Prelude.{◌≡◌, ◌⊎◌, List, ℕ, Ok, length}
 use Rattle.automata.specs.Automaton.{Automaton}
 use Rattle.relettering.specs.Relettering.{relettered, with_letters}
 use Rattle.file_fields.specs.declared.Counts.{Counts}
-use Rattle.file_fields.specs.declared.Reading.TheVariants.{Valid}
 use Rattle.format.specs.Decoding.{automaton_of}
 use Rattle.format.specs.Limits.{Fits}
 use Rattle.format.specs.Reading.{reading_of}
@@ -20,8 +19,8 @@ Numbers n new = (length new ≡ 0) ⊎ (length new ≡ n)
 
 -- over these letters each automaton is within the limits
 pub record Lettered (a b : Counts) (s t one two all : List ℕ) : Type 0 where
-  pub first : reading_of s ≡ Valid a
-  pub second : reading_of t ≡ Valid b
+  pub first : reading_of s ≡ Ok a
+  pub second : reading_of t ≡ Ok b
   pub numbers₁ : Numbers a.letters one
   pub numbers₂ : Numbers b.letters two
   pub fits₁ : Fits (automaton_over one all s)

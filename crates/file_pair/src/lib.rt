@@ -2,9 +2,8 @@
 // order of refusals; document 02, change 6). What joins and compares them goes on from here.
 #![tactic(auto)]
 
-ghost use Rattle.std.specs.Prelude.{◌≡◌, ◌≤◌, length, take};
+ghost use Rattle.std.specs.Prelude.{◌≡◌, ◌≤◌, Ok, length, take};
 ghost use Rattle.automata.specs.Words.{places, same_letters};
-ghost use Rattle.file_fields.specs.declared.Reading.TheVariants.{Valid};
 ghost use Rattle.format.specs.Decoding.{automaton_of};
 ghost use Rattle.format.specs.Reading.{reading_of};
 ghost use Rattle.file_pair.specs.Pair.{Joinable, files_of, letters_of};
@@ -12,36 +11,41 @@ ghost use Rattle.file_pair.specs.Pair.{Joinable, files_of, letters_of};
 use file_letters::agreeing::same_letters;
 use file_letters::joining::{Lettering, count_joined, join_letters};
 use format::fields::flags_at;
-use format::{Counts, Reading};
+use format::{Automaton, Counts, Refusal};
 
-// Whether their letter lists agree, and their counts; or a refusal's number and the automaton at fault.
-#[derive(Clone, Copy)]
-pub enum Files {
-    Valid(bool, Counts, Counts),
-    Fault(u8, u8),
+// Two valid files: whether their letter lists agree, and their counts.
+#[derive(Clone, Copy, PartialEq, Eq, Debug)]
+pub struct Pair {
+    pub agree: bool,
+    pub first: Counts,
+    pub second: Counts,
 }
 
 // The first file's faults, then the second's. That they have more than 64 letters together is not asked here. Cost: what reading each file
 // takes, and their letters.
-pub fn read_files(first: &[u8], second: &[u8]) -> Files
+pub fn read_files(first: &[u8], second: &[u8]) -> Result<Pair, Refusal>
     ensures { result ≡ files_of first.now second.now }
 {
     let left = format::read(first);
-    let Reading::Valid(a) = left else {
-        return Files::Fault(left.number(), 1);
+    let Ok(a) = left else {
+        return Err(left.unwrap_err().reason.of(Automaton::First));
     };
     let right = format::read(second);
-    let Reading::Valid(b) = right else {
-        return Files::Fault(right.number(), 2);
+    let Ok(b) = right else {
+        return Err(right.unwrap_err().reason.of(Automaton::Second));
     };
     let end = flags_at(a);
     let other = flags_at(b);
-    Files::Valid(same_letters(&first[12..end], &second[12..other]), a, b)
+    Ok(Pair {
+        agree: same_letters(&first[12..end], &second[12..other]),
+        first: a,
+        second: b,
+    })
 }
 
 // How many letters two valid files have together. Refuses nothing. Cost: constant where the lists agree, else the pairs of letters.
 pub fn count_letters(agree: bool, a: Counts, first: &[u8], b: Counts, second: &[u8]) -> usize
-    requires { (reading_of first.now ≡ Valid a) × (reading_of second.now ≡ Valid b) × (agree ≡ same_letters (automaton_of first.now) (automaton_of second.now)) }
+    requires { (reading_of first.now ≡ Ok a) × (reading_of second.now ≡ Ok b) × (agree ≡ same_letters (automaton_of first.now) (automaton_of second.now)) }
     ensures { result ≡ length (letters_of first.now second.now) }
 {
     if agree {

@@ -4,10 +4,3 @@
 
 pub mod front;
 pub mod parts;
-
-// What a call that writes a file answers: its length in bytes, or the refusal's number and the automaton at fault.
-#[derive(Clone, Copy)]
-pub enum Written {
-    Bytes(usize),
-    Refused(u8, u8),
-}

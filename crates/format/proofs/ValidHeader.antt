@@ -6,8 +6,9 @@ use Prim.Native.Nat.{ℕ, ◌≤◌}
 use borrow.Author.Tests.{leb-true, le-leb, eqb-true, eq-eqb}
 use lib.Dec.{leb}
 use lib.ListN.{length, drop}
+use Rattle.file_fields.specs.declared.Reason.{Reason}
 use Rattle.file_fields.specs.declared.Counts.{Counts}
-use Rattle.file_fields.specs.declared.Reading.TheVariants.{Valid}
+use Rattle.std.specs.Prelude.{Ok}
 use Rattle.file_fields.specs.Parts.{two, marked, counts_of, count_tests, header_tests, letter_tests, flag_tests, first_arc, arcs_tests, first_fault}
 use Rattle.format.specs.Reading.{front_tests}
 use Rattle.format.specs.Limits.{Ranges}
@@ -55,15 +56,15 @@ pub seen-header : (s : List ℕ) → HeaderSeen s → Hold (header_tests s)
 seen-header s h = (le-leb _ _ h.twelve, (h.mark, (eq-eqb _ _ h.version, ranges_in (counts_of s) h.ranges)))
 
 -- what follows it, as one list: the tests of a file are those of its header and these
-abbrev pub body_tests : Counts → List ℕ → List (Bool × ℕ × ℕ)
+abbrev pub body_tests : Counts → List ℕ → List (Bool × Reason × ℕ)
 body_tests c s = letter_tests c s ++ (flag_tests c s ++ arcs_tests c.arcs c (first_arc c) (drop (first_arc c) s))
 
 -- the counts that reading the header answers are in their ranges ..
-pub header-ranges : (s : List ℕ) {c : Counts} → first_fault (header_tests s) (counts_of s) ≡ Valid c → Ranges c
+pub header-ranges : (s : List ℕ) {c : Counts} → first_fault (header_tests s) (counts_of s) ≡ Ok c → Ranges c
 header-ranges s e = let h = valid-hold (header_tests s) (counts_of s) e in subst (λ (d : Counts). Ranges d) h.1 (header-seen s h.0).ranges
 
 -- .. and so are those that reading the front answers, and the file reaches to its first arc
-pub front-there : (s : List ℕ) {c : Counts} → first_fault (front_tests s) (counts_of s) ≡ Valid c → Ranges c × (first_arc c ≤ length s)
+pub front-there : (s : List ℕ) {c : Counts} → first_fault (front_tests s) (counts_of s) ≡ Ok c → Ranges c × (first_arc c ≤ length s)
 front-there s e =
     let h = valid-hold (front_tests s) (counts_of s) e in
     let counts = h.0.1.1.1 in

@@ -6,19 +6,17 @@ ghost use Rattle.file_fields.specs.Parts.{ascending, ascending_front, unlike_fro
 
 use file_fields::fields::flags_at;
 use file_fields::letters::key_of;
-use file_fields::{Counts, Reading};
+use file_fields::{Counts, Fault, Reason};
 
 // Whether the bytes ascend strictly. Counting them costs two instructions more for each, so they are counted only where they do not.
 // Cost: one pass, up to the first that is not above the one before it.
 fn is_ascending(s: &[u8]) -> bool
     ensures { result ≡ ascending s.now }
 {
-    let mut i: usize = 1;
-    while i < s.len() {
+    for i in 1..s.len() {
         if s[i] <= s[i - 1] {
             return false;
         }
-        i += 1;
     }
     true
 }
@@ -27,12 +25,10 @@ fn is_ascending(s: &[u8]) -> bool
 fn ascending_front(s: &[u8]) -> usize
     ensures { (result ≡ ascending_front s.now) × (result ≤ length s.now) }
 {
-    let mut i: usize = 1;
-    while i < s.len() {
+    for i in 1..s.len() {
         if s[i - 1] >= s[i] {
             return i;
         }
-        i += 1;
     }
     s.len()
 }
@@ -41,14 +37,7 @@ fn ascending_front(s: &[u8]) -> usize
 fn is_among(s: &[u8], byte: u8) -> bool
     ensures { result ≡ any (eqb byte) s.now }
 {
-    let mut i: usize = 0;
-    while i < s.len() {
-        if byte == s[i] {
-            return true;
-        }
-        i += 1;
-    }
-    false
+    s.contains(&byte)
 }
 
 // Whether the letter at this place is the same letter as one behind it. The letters ascend, so it is then a capital, and its small letter
@@ -84,32 +73,30 @@ fn unlike_front(s: &[u8]) -> usize
     if !may_have_both_cases(s) {
         return s.len();
     }
-    let mut i: usize = 0;
-    while i < s.len() {
+    for i in 0..s.len() {
         if is_listed_again(s, i) {
             return i;
         }
-        i += 1;
     }
-    i
+    s.len()
 }
 
 // The counts, or the first fault of the letters.
 // Cost: one pass over them, a second one where they do not ascend, and that of `unlike_front`.
-pub fn read_letters(c: Counts, file: &[u8]) -> Reading
+pub fn read_letters(c: Counts, file: &[u8]) -> Result<Counts, Fault>
     requires { c.letters ≤ 64 }
     ensures { result ≡ first_fault (letter_tests c file.now) c }
 {
     let flags = flags_at(c);
     if file.len() < flags {
-        return Reading::Refused(1, 12);
+        return Err(Reason::EndsInsideAField.at(12));
     }
     if !is_ascending(&file[12..flags]) {
-        return Reading::Refused(5, 12 + ascending_front(&file[12..flags]));
+        return Err(Reason::LettersNotAscending.at(12 + ascending_front(&file[12..flags])));
     }
     let unlike = unlike_front(&file[12..flags]);
     if unlike < c.letters {
-        return Reading::Refused(5, 12 + unlike);
+        return Err(Reason::LettersNotAscending.at(12 + unlike));
     }
-    Reading::Valid(c)
+    Ok(c)
 }

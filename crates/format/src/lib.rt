@@ -6,7 +6,10 @@ ghost use Rattle.std.specs.Prelude.{◌≡◌};
 ghost use Rattle.file_fields.specs.Parts.{counts_of, first_fault};
 ghost use Rattle.format.specs.Reading.{front_tests, reading_of};
 
-pub use file_fields::{Counts, Reading, fields, letters};
+use file_fields::header::read_header;
+pub use file_fields::{Automaton, Counts, Fault, Reason, Refusal, fields, letters};
+use flag_list::read_flags;
+use letter_list::read_letters;
 
 mod flag_list;
 mod letter_list;
@@ -15,18 +18,12 @@ mod letter_list;
 // fault there, as `read` does; the arcs are not looked at.
 // Cost: one pass over these; a second one over the letters where they do not ascend or may have both cases, and then for each capital one
 // over those behind it.
-pub fn read_front(file: &[u8]) -> Reading
+pub fn read_front(file: &[u8]) -> Result<Counts, Fault>
     ensures { result ≡ first_fault (front_tests file.now) (counts_of file.now) }
 {
-    let header = file_fields::header::read_header(file);
-    let Reading::Valid(c) = header else {
-        return header;
-    };
-    let letters = letter_list::read_letters(c, file);
-    let Reading::Valid(_) = letters else {
-        return letters;
-    };
-    flag_list::read_flags(c, file)
+    let c = read_header(file)?;
+    read_letters(c, file)?;
+    read_flags(c, file)
 }
 
 // Answers the counts of a valid file, and of any other the number of the fault that reading from left to right meets first, and its
@@ -38,12 +35,9 @@ pub fn read_front(file: &[u8]) -> Reading
 // The place is that of the first byte or operation that is wrong, or not to be there; of 1 that where the part begins, and of a letter in
 // both cases that of its capital.
 // Cost: that of `read_front`, and one pass over the arcs; a second one over these where they have a fault. None of it is copied.
-pub fn read(file: &[u8]) -> Reading
+pub fn read(file: &[u8]) -> Result<Counts, Fault>
     ensures { result ≡ reading_of file.now }
 {
-    let front = read_front(file);
-    let Reading::Valid(c) = front else {
-        return front;
-    };
+    let c = read_front(file)?;
     file_arcs::read_arcs(c, file, fields::first_arc(c))
 }

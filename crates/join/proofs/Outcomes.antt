@@ -4,7 +4,7 @@ use mathlib.Core.Path.{◌∙◌, ◌≡◌, ap, refl, subst, sym}
 use mathlib.Core.Logic.{◌↔◌, inl, inr}
 use mathlib.Core.Bool.{false}
 use mathlib.Core.List.{List, ◌++◌}
-use Prim.Native.Nat.{◌<◌, ◌≤◌, ℕ}
+use Prim.Native.Nat.{◌≤◌, ℕ}
 use native.Mathlib.Omega.{arith}
 use lib.ListN.{drop, length, take}
 use lib.Seq.{drop_at, take_at}
@@ -17,13 +17,16 @@ use Rattle.relettering.proofs.Laws.{first-inside, relettered-language, second-in
 use Rattle.format.specs.Decoding.{automaton_of}
 use Rattle.format.specs.Encoding.{bytes_of}
 use Rattle.format.specs.Limits.{Fits}
-use Rattle.file_fields.specs.Parts.{number_of}
-use Rattle.format.specs.Refusals.{FirstHolds, fault_of}
-use Rattle.file_laws.proofs.Laws.{Decide, Decides, NoneHolds, Outcome, at_least, decided, fault_decided, first-exactly, first_some, less-decided, no_fault, none_first, refused-or_not, round_trip, valid-fits}
+use Rattle.std.specs.Prelude.{None, Ok, Option, Result}
+use Rattle.file_fields.specs.declared.Automaton.{Automaton as Blamed}
+use Rattle.file_fields.specs.declared.Reason.{Reason}
+use Rattle.file_fields.specs.declared.Reason.TheVariants.{JoinedBeyondALimit}
+use Rattle.file_fields.specs.declared.Refusal.{Refusal}
+use Rattle.file_fields.specs.Parts.{automaton_number, number_of}
+use Rattle.format.specs.Refusals.{FirstHolds, fault_of, refused as refusal, told_number}
+use Rattle.file_laws.proofs.Laws.{Decide, Decides, NoneHolds, Outcome, at_least, decided, fault_decided, first-exactly, first_some, less-decided, no_fault, none_first, number-above, refused-or_not, round_trip, valid-fits}
 use Rattle.file_writing.specs.Answers.{output_of, told}
 use Rattle.file_writing.proofs.Laws.{refusal_sizeless}
-use Rattle.file_writing.specs.declared.Written.{Written}
-use Rattle.file_writing.specs.declared.Written.TheVariants.{Bytes, Refused}
 use Rattle.file_pair.specs.Pair.{letters_of}
 use Rattle.file_pair.proofs.Laws.{apart-over}
 use Rattle.join_parts.specs.Joining.{beyond, close_refusals, closed_of, join_of, join_refusals, joined_of}
@@ -32,8 +35,8 @@ use Rattle.join.proofs.BeyondLaws.{beyond-iff, not_beyond}
 use Rattle.join_closure.proofs.Laws.{closure-fits}
 
 -- ---- the joined automaton x
-beyond-decided : (x : Automaton) → Decides (beyond x, 11, 0) (Beyond x, 11, 0)
-beyond-decided x = decided (beyond x) 11 0 (beyond-iff x) (λ _. omega arith)
+beyond-decided : (x : Automaton) → Decides (beyond x, JoinedBeyondALimit, None) (Beyond x, 11, 0)
+beyond-decided x = decided (beyond x) _ _ (beyond-iff x)
 
 -- its file, at the front of the output
 stands : (x : Automaton) (listed : List ℕ) (Words : List ℕ → Type 0) (old : List ℕ) → x.alphabet ≡ listed → ((word : List ℕ) → Language x word ↔ Words word) → Fits x
@@ -45,7 +48,7 @@ stands x listed Words old lists accepts fits =
     let same : automaton_of (take (length file) (file ++ drop (length file) old)) ≡ x = ap automaton_of front ∙ back.1 in
     record {
       there = ap length front;
-      valid = ap fault_of front ∙ ap number_of back.0;
+      valid = ap fault_of front ∙ ap told_number back.0;
       automaton = same;
       letters = ap (λ (y : Automaton). y.alphabet) same ∙ lists;
       accepts = rw same accepts;
@@ -59,22 +62,22 @@ module _ (cs : List (Type 0 × ℕ × ℕ)) (Ready : Type 0) (x : Automaton) (li
   Answered = Ready × (¬ Beyond x) × (length (bytes_of x) ≤ length old)
 
   -- the answer r and the output that it says
-  abbrev Keeps : Written → Type 0
+  abbrev Keeps : Result ℕ Refusal → Type 0
   Keeps r = Promised cs Ready x listed Words old (output_of r (bytes_of x) old) (told r)
 
   module _ (none : NoneHolds cs ↔ Answered) (file : Answered → FileOf x listed Words (length (bytes_of x)) old (bytes_of x ++ drop (length (bytes_of x)) old)) where
     -- a refusal; the joined file; and whichever of the two the tests say
-    refused : (n b : ℕ) → 0 < n → FirstHolds cs n b → Keeps (Refused n b)
-    refused n b pos f = record {
-      size = λ z. absurd (omega arith);
-      file = λ z. absurd (omega arith);
+    refused : (why : Reason) (whose : Option Blamed) → FirstHolds cs (number_of why) (automaton_number whose) → Keeps (refusal why whose)
+    refused why whose f = record {
+      size = λ z. absurd (omega (arith, number-above why));
+      file = λ z. absurd (omega (arith, number-above why));
       unchanged = λ _. refl;
-      sizeless = λ _. refusal_sizeless n b;
-      none = (λ z. absurd (omega arith), λ a. absurd (first_some cs n b pos f (none.1 a)));
+      sizeless = λ _. refusal_sizeless (record { reason = why; automaton = whose });
+      none = (λ z. absurd (omega (arith, number-above why)), λ a. absurd (first_some cs (number_of why) (automaton_number whose) (number-above why) f (none.1 a)));
       refuses = first-exactly cs f;
     }
 
-    answered : Answered → Keeps (Bytes (length (bytes_of x)))
+    answered : Answered → Keeps (Ok (length (bytes_of x)))
     answered a = record {
       size = λ _. refl;
       file = λ _. file a;
@@ -84,9 +87,9 @@ module _ (cs : List (Type 0 × ℕ × ℕ)) (Ready : Type 0) (x : Automaton) (li
       refuses = first-exactly cs (none_first cs (none.1 a));
     }
 
-    kept : (r : Written) → Outcome Refused (Bytes (length (bytes_of x))) cs r → Keeps r
+    kept : (r : Result ℕ Refusal) → Outcome refusal (Ok (length (bytes_of x))) cs r → Keeps r
     kept r (inl h) = subst Keeps (sym h.1) (answered (none.0 h.0))
-    kept r (inr h) = subst Keeps (sym h.4) (refused h.0 h.1 h.2 h.3)
+    kept r (inr h) = subst Keeps (sym h.3) (refused h.0 h.1 h.2)
 
 -- ---- two files
 module _ (join : Automaton → Automaton → Automaton) (Words : (P Q : List ℕ → Type 0) → List ℕ → Type 0)
@@ -115,8 +118,8 @@ module _ (join : Automaton → Automaton → Automaton) (Words : (P Q : List ℕ
   tests-decide : Decide (join_refusals first second x (length old)) cs
   unfolding join_refusals
   tests-decide = (
-    fault_decided first 1,
-    (fault_decided second 2, (less-decided 64 (length all) 11 0 (omega arith), (beyond-decided x, (less-decided (length old) (length (bytes_of x)) 25 0 (omega arith), tt)))),
+    fault_decided first _,
+    (fault_decided second _, (less-decided 64 (length all) _ _, (beyond-decided x, (less-decided (length old) (length (bytes_of x)) _ _, tt)))),
   )
 
   -- none holds where nothing is to be refused
@@ -146,7 +149,7 @@ module _ (join : Automaton → Automaton → Automaton) (Words : (P Q : List ℕ
 
   pub two-joined : let r = joined_of join first second (length old) in JoinPromised join Words first second old (output_of r (bytes_of (join_of join first second)) old) (told r)
   unfolding joined_of
-  two-joined = kept cs (ValidPair first second) x all (Words (Language a) (Language b)) old none file (joined_of join first second (length old)) (refused-or_not Refused (Bytes (length (bytes_of x))) (join_refusals first second x (length old)) cs tests-decide)
+  two-joined = kept cs (ValidPair first second) x all (Words (Language a) (Language b)) old none file (joined_of join first second (length old)) (refused-or_not refusal (Ok (length (bytes_of x))) (join_refusals first second x (length old)) cs tests-decide)
 
 -- ---- one file
 module _ (file old : List ℕ) where
@@ -159,7 +162,7 @@ module _ (file old : List ℕ) where
   -- each test of the answer decides its condition
   close_decide : Decide (close_refusals file (length old)) conditions
   unfolding close_refusals
-  close_decide = (fault_decided file 1, (beyond-decided closed, (less-decided (length old) (length (bytes_of closed)) 25 0 (omega arith), tt)))
+  close_decide = (fault_decided file _, (beyond-decided closed, (less-decided (length old) (length (bytes_of closed)) _ _, tt)))
 
   -- none holds where nothing is to be refused
   none-holds : NoneHolds conditions ↔ ((fault_of file ≡ 0) × (¬ Beyond closed) × (length (bytes_of closed) ≤ length old))
@@ -181,4 +184,4 @@ module _ (file old : List ℕ) where
       let f = valid-fits file v.0 v.1 in
       stands closed (automaton_of file).alphabet _ old closed-lists (closing (automaton_of file) f.well_formed) (closure-fits (automaton_of file) f (not_beyond closed p.1)))
       (closed_of file (length old))
-      (refused-or_not Refused (Bytes (length (bytes_of closed))) (close_refusals file (length old)) conditions close_decide)
+      (refused-or_not refusal (Ok (length (bytes_of closed))) (close_refusals file (length old)) conditions close_decide)

@@ -1,10 +1,9 @@
 // join_closure: a new state 0, initial and final, with an empty move into the automaton, and a return from each final state.
 #![tactic(auto)]
 
-ghost use Rattle.std.specs.Prelude.{◌≡◌, ◌+◌, ◌*◌, ◌≤◌, length};
+ghost use Rattle.std.specs.Prelude.{◌≡◌, ◌+◌, ◌*◌, ◌≤◌, Ok, length};
 ghost use Rattle.automata.specs.Automaton.{Automaton};
 ghost use Rattle.automata.specs.Joins.{final_states, clearing, closure};
-ghost use Rattle.file_fields.specs.declared.Reading.TheVariants.{Valid};
 ghost use Rattle.format.specs.Reading.{reading_of};
 ghost use Rattle.format.specs.Decoding.{automaton_of};
 ghost use Rattle.format.specs.Encoding.{sizes, arcs_bytes, bytes_of};
@@ -13,11 +12,10 @@ ghost use Rattle.file_writing.specs.Placing.{Appended};
 ghost use Rattle.file_writing.specs.Answers.{output_of};
 ghost use Rattle.join_parts.specs.Joining.{written_of};
 
-use file_writing::Written;
 use file_writing::front::write_front;
 use file_writing::parts::write_byte;
-use format::Counts;
 use format::fields::flags_at;
+use format::{Counts, Refusal};
 use join_parts::answer::{arcs_size, decide};
 use join_parts::finals::{count_finals, write_final_arcs};
 use join_parts::flags::write_flags;
@@ -48,7 +46,7 @@ fn return_size(n: usize) -> usize
 // The arcs of the closure: the added empty move, those of the file with their own letters, then a return from each final state.
 // Cost: the states, and the bytes written.
 fn write_closure_arcs(out: &mut [u8], at: usize, a: Counts, file: &[u8]) -> usize
-    requires { (reading_of file.now ≡ Valid a) × (1 + a.states ≤ 256) × (at + length (arcs_bytes (closure (automaton_of file.now)).arcs) ≤ length out.old) }
+    requires { (reading_of file.now ≡ Ok a) × (1 + a.states ≤ 256) × (at + length (arcs_bytes (closure (automaton_of file.now)).arcs) ≤ length out.old) }
     ensures { Appended at (arcs_bytes (closure (automaton_of file.now)).arcs) out.old out.new result }
 {
     let arcs = write_entry(out, at, 1);
@@ -58,7 +56,7 @@ fn write_closure_arcs(out: &mut [u8], at: usize, a: Counts, file: &[u8]) -> usiz
 
 // The whole closure, with the counts c. Cost: the bytes written.
 fn write_closure(out: &mut [u8], c: Counts, a: Counts, file: &[u8]) -> usize
-    requires { (reading_of file.now ≡ Valid a) × (sizes (closure (automaton_of file.now)) ≡ c) × Fits (closure (automaton_of file.now)) × (length (bytes_of (closure (automaton_of file.now))) ≤ length out.old) }
+    requires { (reading_of file.now ≡ Ok a) × (sizes (closure (automaton_of file.now)) ≡ c) × Fits (closure (automaton_of file.now)) × (length (bytes_of (closure (automaton_of file.now))) ≤ length out.old) }
     ensures { Appended 0 (bytes_of (closure (automaton_of file.now))) out.old out.new result }
 {
     let end = flags_at(a);
@@ -69,8 +67,8 @@ fn write_closure(out: &mut [u8], c: Counts, a: Counts, file: &[u8]) -> usize
 }
 
 // The closure of a valid file. Cost: the states, and the bytes written.
-pub fn repeat(out: &mut [u8], a: Counts, file: &[u8]) -> Written
-    requires { reading_of file.now ≡ Valid a }
+pub fn repeat(out: &mut [u8], a: Counts, file: &[u8]) -> Result<usize, Refusal>
+    requires { reading_of file.now ≡ Ok a }
     ensures answer { result ≡ written_of (closure (automaton_of file.now)) (length out.old) }
     ensures output { out.new ≡ output_of result (bytes_of (closure (automaton_of file.now))) out.old }
 {
@@ -78,10 +76,7 @@ pub fn repeat(out: &mut [u8], a: Counts, file: &[u8]) -> Written
     let c = closure_counts(a, finals);
     let returns = finals * return_size(a.registers);
     let size = 18 + c.letters + c.states + arcs_size(a, file) + returns;
-    let answer = decide(c, size, out.len());
-    let Written::Bytes(_) = answer else {
-        return answer;
-    };
+    let length = decide(c, size, out.len())?;
     write_closure(out, c, a, file);
-    answer
+    Ok(length)
 }

@@ -3,10 +3,9 @@
 // file, and there is room for the letters of both; which letters these are plays no part.
 #![tactic(auto)]
 
-ghost use Rattle.std.specs.Prelude.{◌≡◌, ◌+◌, ◌≤◌, length};
+ghost use Rattle.std.specs.Prelude.{◌≡◌, ◌+◌, ◌≤◌, Ok, length};
 ghost use Rattle.automata.specs.Automaton.{Automaton};
 ghost use Rattle.automata.specs.Joins.{final_states, concatenation};
-ghost use Rattle.file_fields.specs.declared.Reading.TheVariants.{Valid};
 ghost use Rattle.format.specs.Reading.{reading_of};
 ghost use Rattle.format.specs.Decoding.{automaton_of};
 ghost use Rattle.format.specs.Encoding.{sizes, arcs_bytes, bytes_of};
@@ -17,10 +16,9 @@ ghost use Rattle.file_pair.specs.Pair.{Joinable, letters_of};
 ghost use Rattle.join_parts.specs.Joining.{join_of, written_of};
 ghost use Rattle.join_parts.specs.OwnNumbers.{roomy};
 
-use file_writing::Written;
 use file_writing::parts::write_zeros;
-use format::Counts;
-use join_parts::answer::{arcs_size, decide, larger};
+use format::{Counts, Refusal};
+use join_parts::answer::{arcs_size, decide};
 use join_parts::finals::{count_finals, write_final_arcs};
 use join_parts::flags::{write_flags, write_roomy_front};
 use join_parts::groups::write_moved_arcs;
@@ -35,7 +33,7 @@ fn concatenation_counts(letters: usize, a: Counts, finals: usize, b: Counts) -> 
         letters,
         states: a.states + b.states,
         registers: a.registers + b.registers - 1,
-        symbols: larger(a.symbols, b.symbols),
+        symbols: a.symbols.max(b.symbols),
         arcs: a.arcs + finals + b.arcs,
     }
 }
@@ -50,7 +48,7 @@ fn write_concatenation_arcs(
     b: Counts,
     second: &[u8],
 ) -> usize
-    requires { (reading_of first.now ≡ Valid a) × (reading_of second.now ≡ Valid b) × (a.states + b.states ≤ 256) × (at + length (arcs_bytes (concatenation (automaton_of first.now) (automaton_of second.now)).arcs) ≤ length out.old) }
+    requires { (reading_of first.now ≡ Ok a) × (reading_of second.now ≡ Ok b) × (a.states + b.states ≤ 256) × (at + length (arcs_bytes (concatenation (automaton_of first.now) (automaton_of second.now)).arcs) ≤ length out.old) }
     ensures { Appended at (arcs_bytes (concatenation (automaton_of first.now) (automaton_of second.now)).arcs) out.old out.new result }
 {
     let shift = a.registers - 1;
@@ -68,7 +66,7 @@ fn write_concatenation(
     b: Counts,
     second: &[u8],
 ) -> usize
-    requires { (reading_of first.now ≡ Valid a) × (reading_of second.now ≡ Valid b) × (sizes (roomy c.letters (concatenation (automaton_of first.now) (automaton_of second.now))) ≡ c) × Ranges c × (a.letters ≤ c.letters) × (length (bytes_of (roomy c.letters (concatenation (automaton_of first.now) (automaton_of second.now)))) ≤ length out.old) }
+    requires { (reading_of first.now ≡ Ok a) × (reading_of second.now ≡ Ok b) × (sizes (roomy c.letters (concatenation (automaton_of first.now) (automaton_of second.now))) ≡ c) × Ranges c × (a.letters ≤ c.letters) × (length (bytes_of (roomy c.letters (concatenation (automaton_of first.now) (automaton_of second.now)))) ≤ length out.old) }
     ensures { Appended 0 (bytes_of (roomy c.letters (concatenation (automaton_of first.now) (automaton_of second.now)))) out.old out.new result }
 {
     let flags = write_roomy_front(out, c, a, first);
@@ -86,7 +84,7 @@ pub fn append(
     b: Counts,
     second: &[u8],
     letters: usize,
-) -> Written
+) -> Result<usize, Refusal>
     requires { Joinable a b first.now second.now × (letters ≡ length (letters_of first.now second.now)) }
     ensures answer { result ≡ written_of (join_of concatenation first.now second.now) (length out.old) }
     ensures output { out.new ≡ output_of result (bytes_of (roomy letters (concatenation (automaton_of first.now) (automaton_of second.now)))) out.old }
@@ -95,10 +93,7 @@ pub fn append(
     let c = concatenation_counts(letters, a, finals, b);
     let moves = 6 * finals;
     let size = 12 + c.letters + c.states + arcs_size(a, first) + moves + arcs_size(b, second);
-    let answer = decide(c, size, out.len());
-    let Written::Bytes(_) = answer else {
-        return answer;
-    };
+    let length = decide(c, size, out.len())?;
     write_concatenation(out, c, a, first, b, second);
-    answer
+    Ok(length)
 }

@@ -17,10 +17,9 @@ ghost use Rattle.join_parts.specs.Joining.{join_of, written_of};
 ghost use Rattle.join_parts.specs.OwnNumbers.{Others, by_first, roomy};
 ghost use Rattle.join_product_count.specs.ProductArcs.{Matchable, product_of, with_arcs};
 
-use file_writing::Written;
 use finals::write_both_flags;
-use format::Counts;
-use join_parts::answer::{decide, is_beyond, larger};
+use format::{Counts, Reason, Refusal};
+use join_parts::answer::{decide, is_beyond};
 use join_parts::flags::write_roomy_front;
 use join_product_arcs::beside::{Beside, write_empty_moves};
 use join_product_arcs::joint::write_joint_arcs;
@@ -37,7 +36,7 @@ fn product_counts(a: Counts, b: Counts, letters: usize, arcs: usize) -> Counts
         letters,
         states: a.states * b.states,
         registers: a.registers + b.registers - 1,
-        symbols: larger(a.symbols, b.symbols),
+        symbols: a.symbols.max(b.symbols),
         arcs,
     }
 }
@@ -105,24 +104,21 @@ pub fn product(
     second: &[u8],
     others: &[u8],
     letters: usize,
-) -> Written
+) -> Result<usize, Refusal>
     requires { Joinable a b first.now second.now × (letters ≡ length (letters_of first.now second.now)) × Others first.now second.now others.now }
     ensures answer { result ≡ written_of (join_of intersection first.now second.now) (length out.old) }
     ensures output { out.new ≡ output_of result (bytes_of (roomy letters (intersection (automaton_of first.now) (by_first first.now others.now second.now)))) out.old }
 {
     if is_beyond(product_counts(a, b, letters, 0)) {
-        return Written::Refused(11, 0);
+        return Err(Reason::JoinedBeyondALimit.of_call());
     }
     let t = count_arcs(a, first, b, second, others);
     if t.many {
-        return Written::Refused(11, 0);
+        return Err(Reason::JoinedBeyondALimit.of_call());
     }
     let c = product_counts(a, b, letters, t.arcs);
     let size = 12 + c.letters + c.states + t.size;
-    let answer = decide(c, size, out.len());
-    let Written::Bytes(_) = answer else {
-        return answer;
-    };
+    let length = decide(c, size, out.len())?;
     write_product(out, c, a, first, b, second, others);
-    answer
+    Ok(length)
 }

@@ -8,7 +8,7 @@ use lib.ListN.{drop, get_or, length, length-append, length-drop, length-map}
 use Rattle.automata.specs.Automaton.{Arc}
 use Rattle.automata.specs.Joins.{moved_arc, moved_op, clearing, empty_move}
 use Rattle.file_fields.specs.declared.Counts.{Counts}
-use Rattle.file_fields.specs.declared.Reading.TheVariants.{Valid}
+use Rattle.std.specs.Prelude.{Ok}
 use Rattle.format.specs.Encoding.{arc_bytes, arcs_bytes}
 use Rattle.format.specs.Decoding.{arc_of, arcs_of, automaton_of}
 use Rattle.file_fields.specs.Parts.{arc_size, first_arc}
@@ -55,7 +55,7 @@ whole_length (suc m) l =
     ∙ omega (arith, read_length l, whole_length m (drop (arc_size l) l))
 
 -- all that follows the flags of a valid file
-pub arcs-length : (s : List ℕ) (c : Counts) → reading_of s ≡ Valid c → first_arc c + length (arcs_bytes (automaton_of s).arcs) ≡ length s
+pub arcs-length : (s : List ℕ) (c : Counts) → reading_of s ≡ Ok c → first_arc c + length (arcs_bytes (automaton_of s).arcs) ≡ length s
 arcs-length s c e =
     let f = file-seen s c e in
     let a = arcs-seen c c.arcs (first_arc c) (drop (first_arc c) s) (valid-ranges s c e).symbols f.arcs in

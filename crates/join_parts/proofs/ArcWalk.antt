@@ -10,7 +10,8 @@ use lib.Seq.{drop-drop, get_or-drop}
 use Rattle.automata.specs.Automaton.{Arc}
 use Rattle.automata.proofs.Laws.{each-split}
 use Rattle.file_fields.specs.declared.Counts.{Counts}
-use Rattle.file_fields.specs.declared.Reading.TheVariants.{Valid}
+use Rattle.file_fields.specs.declared.Reason.{Reason}
+use Rattle.std.specs.Prelude.{Ok}
 use Rattle.format.specs.Limits.{Ranges}
 use Rattle.format.specs.Encoding.{arc_bytes, arcs_bytes}
 use Rattle.format.specs.Decoding.{arc_of, arcs_of, letter_of, ops_of}
@@ -49,7 +50,7 @@ pub record ArcHere (c : Counts) (s : List ℕ) (from : ℕ) : Type 0 where
   pub fits : ArcFits c (arc_of (drop from s))
   pub kinds : KnownOps (get_or s (from + 3) 0) (drop (from + 4) s)
 
-pub walk_start : (s : List ℕ) (c : Counts) → reading_of s ≡ Valid c → Walk c s c.arcs (first_arc c)
+pub walk_start : (s : List ℕ) (c : Counts) → reading_of s ≡ Ok c → Walk c s c.arcs (first_arc c)
 walk_start s c e = let f = file-seen s c e in record { ranges = valid-ranges s c e; there = f.there; tests = f.arcs }
 
 module _ (c : Counts) (s : List ℕ) (m i from : ℕ) where
@@ -63,7 +64,7 @@ module _ (c : Counts) (s : List ℕ) (m i from : ℕ) where
   unfolding arcs_tests
   walk_here h w =
       let t = rw (down m i h) at w.tests in
-      let a = arc-seen c from here (each-split (λ (t : Bool × ℕ × ℕ). t.0 ≡ true) (arc_tests c from here) (arcs_tests (m - (i + 1)) c next (drop (arc_size here) here)) t).0 in
+      let a = arc-seen c from here (each-split (λ (t : Bool × Reason × ℕ). t.0 ≡ true) (arc_tests c from here) (arcs_tests (m - (i + 1)) c next (drop (arc_size here) here)) t).0 in
       let kinds = rw (get_or-drop from s 3 0, drop-drop 4 from s) at (known-ops c (get_or here 1 0) (get_or here 3 0) (drop 4 here) a.ops) in
       record { whole = omega (arith, a.whole, length-drop from s, w.there); fits = arc-fits c here w.ranges.symbols a; kinds = kinds }
 
@@ -71,7 +72,7 @@ module _ (c : Counts) (s : List ℕ) (m i from : ℕ) where
   unfolding arcs_tests
   walk-on h w =
       let t = rw (down m i h) at w.tests in
-      let rest = (each-split (λ (t : Bool × ℕ × ℕ). t.0 ≡ true) (arc_tests c from here) (arcs_tests (m - (i + 1)) c next (drop (arc_size here) here)) t).1 in
+      let rest = (each-split (λ (t : Bool × Reason × ℕ). t.0 ≡ true) (arc_tests c from here) (arcs_tests (m - (i + 1)) c next (drop (arc_size here) here)) t).1 in
       record { ranges = w.ranges; there = (walk_here h w).whole; tests = rw (drop-drop (arc_size here) from s) at rest }
 
   -- the arcs that are left, one step and the end

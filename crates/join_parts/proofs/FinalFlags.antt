@@ -13,7 +13,7 @@ use lib.Seq.{drop-cons}
 use Rattle.automata.specs.Automaton.{Automaton, Arc}
 use Rattle.automata.specs.Joins.{final_states, arc_from, clearing}
 use Rattle.file_fields.specs.declared.Counts.{Counts}
-use Rattle.file_fields.specs.declared.Reading.TheVariants.{Valid}
+use Rattle.std.specs.Prelude.{Ok}
 use Rattle.format.specs.Decoding.{automaton_of, decoded, is_final}
 use Rattle.format.specs.Encoding.{flag_byte}
 use Rattle.file_fields.specs.Parts.{flag_bytes}
@@ -47,7 +47,7 @@ module _ (flags : List ℕ) (i : ℕ) where
   final-none h = rw (drop_of_length-le flags {i = i} h)
 
 -- ---- the flags of a valid file
-module _ (s : List ℕ) (c : Counts) (e : reading_of s ≡ Valid c) where
+module _ (s : List ℕ) (c : Counts) (e : reading_of s ≡ Ok c) where
   pub valid-finals : (automaton_of s).finals ≡ map is_final (flag_bytes c s)
   unfolding decoded
   valid-finals = ap (λ (x : Automaton). x.finals) (valid-decoded s c e)
@@ -70,7 +70,7 @@ module _ (s : List ℕ) (c : Counts) (e : reading_of s ≡ Valid c) where
 pub lent_flags : (c : Counts) (s : List ℕ) → take (12 + c.letters + c.states - (12 + c.letters)) (drop (12 + c.letters) s) ≡ flag_bytes c s
 lent_flags c s = let e : 12 + c.letters + c.states - (12 + c.letters) ≡ c.states = omega arith in rw e
 
-pub lent_finals : (s : List ℕ) (c : Counts) → reading_of s ≡ Valid c → (automaton_of s).finals ≡ map is_final (take (12 + c.letters + c.states - (12 + c.letters)) (drop (12 + c.letters) s))
+pub lent_finals : (s : List ℕ) (c : Counts) → reading_of s ≡ Ok c → (automaton_of s).finals ≡ map is_final (take (12 + c.letters + c.states - (12 + c.letters)) (drop (12 + c.letters) s))
 lent_finals s c e = valid-finals s c e ∙ ap (map is_final) (sym (lent_flags c s))
 
 -- no more final states than states

@@ -22,7 +22,7 @@ use Rattle.file_laws.proofs.Laws.{bytes-length}
 use Rattle.file_pair.specs.Pair.{letters_of}
 use Rattle.file_writing.specs.Answers.{output_of}
 use Rattle.file_writing.specs.Placing.{Appended}
-use Rattle.file_writing.specs.declared.Written.TheVariants.{Bytes}
+use Rattle.std.specs.Prelude.{Ok}
 use Rattle.file_writing.proofs.Laws.{arcs-append, header-length}
 use Rattle.file_arc_writing.proofs.Laws.{arc-length}
 use Rattle.join_parts.specs.OwnNumbers.{Standing, last_arcs, letters_put, relettered_bytes, roomy}
@@ -243,7 +243,7 @@ module _ {k n : ℕ} {one two all : List ℕ} {z : Automaton} (h : Put k n one t
 
 -- ---- the output once a join by the files' own numbers is written
 pub standing : (s t : List ℕ) (of_second : Bool) (z : Automaton) (n : ℕ) (old : List ℕ) → length z.alphabet ≤ length (letters_of s t) → last_arcs of_second t ≤ length z.arcs → Ranges (sizes (roomy (length (letters_of s t)) z))
-    → Standing s t of_second (output_of (Bytes n) (bytes_of (roomy (length (letters_of s t)) z)) old)
+    → Standing s t of_second (output_of (Ok n) (bytes_of (roomy (length (letters_of s t)) z)) old)
 standing s t of_second z n old room last ranges = record {
   joined = z;
   behind = drop (length (bytes_of (roomy (length (letters_of s t)) z))) old;

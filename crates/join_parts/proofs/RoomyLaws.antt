@@ -6,7 +6,7 @@ use native.Mathlib.Omega.{arith}
 use lib.ListN.{length, length-append, length-replicate, replicate}
 use Rattle.automata.specs.Automaton.{Automaton, states}
 use Rattle.file_fields.specs.declared.Counts.{Counts}
-use Rattle.file_fields.specs.declared.Reading.TheVariants.{Valid}
+use Rattle.std.specs.Prelude.{Ok}
 use Rattle.format.specs.Decoding.{automaton_of}
 use Rattle.format.specs.Encoding.{arcs_bytes, bytes_of, flag_byte, header_bytes, sizes}
 use Rattle.format.specs.Reading.{reading_of}
@@ -42,7 +42,7 @@ roomy-from n m x e k =
     bytes-from (roomy n x) ∙ ap₂ (λ (d : Counts) (j : ℕ). (header_bytes d ++ roomy_letters n j x.alphabet) ++ (map flag_byte x.finals ++ arcs_bytes x.arcs)) e k
 
 -- header, letters and 00 stand before the flags
-pub roomy-ends : (s : List ℕ) (a : Counts) → reading_of s ≡ Valid a → (c : Counts) → a.letters ≤ c.letters → {old out : List ℕ} {next : ℕ}
+pub roomy-ends : (s : List ℕ) (a : Counts) → reading_of s ≡ Ok a → (c : Counts) → a.letters ≤ c.letters → {old out : List ℕ} {next : ℕ}
     → Appended 0 (header_bytes c ++ roomy_letters c.letters a.letters (automaton_of s).alphabet) old out next → (next ≡ 12 + c.letters) × (length out ≡ length old)
 roomy-ends s a e c h w =
     let l = letters-long c.letters a.letters (automaton_of s).alphabet (valid-lengths s a e).0 h in

@@ -1,25 +1,16 @@
 // The answer for a joined automaton, before any of it is written: 11, 25 or its length.
-ghost use Rattle.std.specs.Prelude.{◌≡◌, ◌≤◌, max, length};
-ghost use Rattle.file_fields.specs.declared.Reading.TheVariants.{Valid};
+ghost use Rattle.std.specs.Prelude.{◌≡◌, ◌≤◌, Ok, length};
 ghost use Rattle.format.specs.Reading.{reading_of};
 ghost use Rattle.format.specs.Decoding.{automaton_of};
 ghost use Rattle.format.specs.Encoding.{arcs_bytes};
 ghost use Rattle.join_parts.specs.Joining.{many_counts, decided};
 
-use file_writing::Written;
-use format::Counts;
 use format::fields::first_arc;
-
-// The larger of two numbers: symbols and registers of a union. Cost: constant.
-pub fn larger(x: usize, y: usize) -> usize
-    ensures { result ≡ max x y }
-{
-    if x < y { y } else { x }
-}
+use format::{Counts, Reason, Refusal};
 
 // How many bytes the arcs of a file with the counts c take. Cost: constant.
 pub fn arcs_size(c: Counts, file: &[u8]) -> usize
-    requires { reading_of file.now ≡ Valid c }
+    requires { reading_of file.now ≡ Ok c }
     ensures { (result ≡ length (arcs_bytes (automaton_of file.now).arcs)) × (result ≤ 41292) }
 {
     file.len() - first_arc(c)
@@ -33,14 +24,14 @@ pub fn is_beyond(c: Counts) -> bool
 }
 
 // 11 where the counts are beyond a limit, 25 where the output is shorter than the result, else the result's length. Cost: constant.
-pub fn decide(c: Counts, size: usize, space: usize) -> Written
+pub fn decide(c: Counts, size: usize, space: usize) -> Result<usize, Refusal>
     ensures { result ≡ decided (many_counts c) size space }
 {
     if is_beyond(c) {
-        return Written::Refused(11, 0);
+        return Err(Reason::JoinedBeyondALimit.of_call());
     }
     if space < size {
-        return Written::Refused(25, 0);
+        return Err(Reason::OutputTooShort.of_call());
     }
-    Written::Bytes(size)
+    Ok(size)
 }

@@ -1,6 +1,5 @@
 // What stands before the arcs of a joined file: its header and its letters, and the final flags.
-ghost use Rattle.std.specs.Prelude.{◌≡◌, ◌++◌, map, ◌+◌, ◌-◌, ◌≤◌, length, replicate};
-ghost use Rattle.file_fields.specs.declared.Reading.TheVariants.{Valid};
+ghost use Rattle.std.specs.Prelude.{◌≡◌, ◌++◌, Ok, map, ◌+◌, ◌-◌, ◌≤◌, length, replicate};
 ghost use Rattle.format.specs.Reading.{reading_of};
 ghost use Rattle.format.specs.Decoding.{automaton_of};
 ghost use Rattle.format.specs.Encoding.{flag_byte, header_bytes};
@@ -15,7 +14,7 @@ use format::fields::flags_at;
 // The header of a joined file with the counts c, the letters of a file with the counts a, and 00 for those that are left of c's letters.
 // Cost: c's letters.
 pub fn write_roomy_front(out: &mut [u8], c: Counts, a: Counts, file: &[u8]) -> usize
-    requires { Ranges c × (reading_of file.now ≡ Valid a) × (a.letters ≤ c.letters) × (12 + c.letters ≤ length out.old) }
+    requires { Ranges c × (reading_of file.now ≡ Ok a) × (a.letters ≤ c.letters) × (12 + c.letters ≤ length out.old) }
     ensures { Appended 0 (header_bytes c ++ ((automaton_of file.now).alphabet ++ replicate (c.letters - a.letters) 0)) out.old out.new result }
 {
     let end = flags_at(a);
@@ -25,7 +24,7 @@ pub fn write_roomy_front(out: &mut [u8], c: Counts, a: Counts, file: &[u8]) -> u
 
 // The final flags of a file with the counts c. Cost: its states.
 pub fn write_flags(out: &mut [u8], at: usize, c: Counts, file: &[u8]) -> usize
-    requires { (reading_of file.now ≡ Valid c) × (at + c.states ≤ length out.old) }
+    requires { (reading_of file.now ≡ Ok c) × (at + c.states ≤ length out.old) }
     ensures { Appended at (map flag_byte (automaton_of file.now).finals) out.old out.new result }
 {
     let flags = flags_at(c);

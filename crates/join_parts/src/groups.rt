@@ -1,7 +1,6 @@
 // Arcs that joins write: an added empty move, and those of a file with other states and registers.
-ghost use Rattle.std.specs.Prelude.{◌≡◌, map, ◌+◌, ◌<◌, ◌≤◌, length, drop, get_or};
+ghost use Rattle.std.specs.Prelude.{◌≡◌, Ok, map, ◌+◌, ◌<◌, ◌≤◌, length, drop, get_or};
 ghost use Rattle.automata.specs.Joins.{empty_move, moved_arc};
-ghost use Rattle.file_fields.specs.declared.Reading.TheVariants.{Valid};
 ghost use Rattle.file_fields.specs.Parts.{arc_size};
 ghost use Rattle.format.specs.Reading.{reading_of};
 ghost use Rattle.format.specs.Decoding.{arc_of, automaton_of};
@@ -50,16 +49,14 @@ pub fn write_moved_arcs(
     s: usize,
     k: usize,
 ) -> usize
-    requires { (reading_of file.now ≡ Valid c) × (s + c.states ≤ 256) × (k ≤ 8) × (at + length (arcs_bytes (map (moved_arc s k) (automaton_of file.now).arcs)) ≤ length out.old) }
+    requires { (reading_of file.now ≡ Ok c) × (s + c.states ≤ 256) × (k ≤ 8) × (at + length (arcs_bytes (map (moved_arc s k) (automaton_of file.now).arcs)) ≤ length out.old) }
     ensures { Appended at (arcs_bytes (map (moved_arc s k) (automaton_of file.now).arcs)) out.old out.new result }
 {
     let mut from = first_arc(c);
     let mut to = at;
-    let mut i: usize = 0;
-    while i < c.arcs {
+    for _i in 0..c.arcs {
         to = write_moved_arc(out, to, file, from, s, k);
         from += arc_size(file, from);
-        i += 1;
     }
     to
 }

@@ -23,12 +23,10 @@ fn reletter_arcs(out: &mut [u8], at: usize, count: usize, new: &[u8]) -> usize
     ensures output { out.new ≡ take at out.old ++ relettered_bytes count new.now (drop at out.old) }
 {
     let mut from = at;
-    let mut i: usize = 0;
-    while i < count {
+    for _i in 0..count {
         let letter = new_letter(new, byte(out, from + 1));
         out[from + 1] = letter as u8;
         from += arc_size(out, from);
-        i += 1;
     }
     from
 }

@@ -1,7 +1,6 @@
 // Empty moves of one automaton beside each state of the other, which they leave as it is.
-ghost use Rattle.std.specs.Prelude.{◌≡◌, map, ℕ, ◌+◌, ◌*◌, ◌<◌, ◌≤◌, length, drop};
+ghost use Rattle.std.specs.Prelude.{◌≡◌, Ok, map, ℕ, ◌+◌, ◌*◌, ◌<◌, ◌≤◌, length, drop};
 ghost use Rattle.automata.specs.Lists.{count_from};
-ghost use Rattle.file_fields.specs.declared.Reading.TheVariants.{Valid};
 ghost use Rattle.file_fields.specs.Parts.{arc_size};
 ghost use Rattle.format.specs.Reading.{reading_of};
 ghost use Rattle.format.specs.Decoding.{arc_of, automaton_of};
@@ -45,28 +44,24 @@ fn write_beside_each(out: &mut [u8], at: usize, file: &[u8], from: usize, b: Bes
     ensures { Appended at (arcs_bytes (map (beside_arc b (arc_of (drop from file.now))) (count_from 0 b.states))) out.old out.new result }
 {
     let mut to = at;
-    let mut i: usize = 0;
-    while i < b.states {
+    for i in 0..b.states {
         to = write_beside(out, to, file, from, b, i);
-        i += 1;
     }
     to
 }
 
 // Each empty move of a file with the counts c, beside each state. Cost: the file's arcs, and the bytes written.
 pub fn write_empty_moves(out: &mut [u8], at: usize, c: Counts, file: &[u8], b: Beside) -> usize
-    requires { (reading_of file.now ≡ Valid c) × ((s i : ℕ) → s < c.states → i < b.states → s * b.scale + i * b.step < 256) × (b.shift ≤ 8) × (at + length (arcs_bytes (empty_with (beside_arc b) b.states (automaton_of file.now).arcs)) ≤ length out.old) }
+    requires { (reading_of file.now ≡ Ok c) × ((s i : ℕ) → s < c.states → i < b.states → s * b.scale + i * b.step < 256) × (b.shift ≤ 8) × (at + length (arcs_bytes (empty_with (beside_arc b) b.states (automaton_of file.now).arcs)) ≤ length out.old) }
     ensures { Appended at (arcs_bytes (empty_with (beside_arc b) b.states (automaton_of file.now).arcs)) out.old out.new result }
 {
     let mut to = at;
     let mut from = first_arc(c);
-    let mut i: usize = 0;
-    while i < c.arcs {
+    for _i in 0..c.arcs {
         if byte(file, from + 1) == 255 {
             to = write_beside_each(out, to, file, from, b);
         }
         from += arc_size(file, from);
-        i += 1;
     }
     to
 }

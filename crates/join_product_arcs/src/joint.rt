@@ -41,8 +41,7 @@ fn write_joint(
 }
 
 // The arc at a place of the first file with each arc of the second of its letter, which is found there by its number in the second; an empty
-// move has none. The arcs that are left are counted down, which costs one instruction less for each. Cost: the arcs of the second, and the
-// bytes written.
+// move has none. Cost: the arcs of the second, and the bytes written.
 fn write_joint_with(
     out: &mut [u8],
     at: usize,
@@ -63,13 +62,11 @@ fn write_joint_with(
     let own = other_letter(first, others, letter) as usize;
     let mut to = at;
     let mut other = first_arc(b);
-    let mut left = b.arcs;
-    while 0 < left {
+    for _i in 0..b.arcs {
         if own == byte(second, other + 1) {
             to = write_joint(out, to, first, from, second, other, b.states, k);
         }
         other += arc_size(second, other);
-        left -= 1;
     }
     to
 }
@@ -91,11 +88,9 @@ pub fn write_joint_arcs(
 {
     let mut to = at;
     let mut from = first_arc(a);
-    let mut i: usize = 0;
-    while i < a.arcs {
+    for _i in 0..a.arcs {
         to = write_joint_with(out, to, first, from, b, second, others, k);
         from += arc_size(first, from);
-        i += 1;
     }
     to
 }

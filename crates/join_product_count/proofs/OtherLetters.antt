@@ -19,7 +19,7 @@ use Rattle.automata.specs.Words.{place, places}
 use Rattle.automata.proofs.Laws.{at_map, at_some, spells-places}
 use Rattle.relettering.specs.Relettering.{letter_by}
 use Rattle.file_fields.specs.declared.Counts.{Counts}
-use Rattle.file_fields.specs.declared.Reading.TheVariants.{Valid}
+use Rattle.std.specs.Prelude.{Ok}
 use Rattle.format.specs.Decoding.{automaton_of}
 use Rattle.format.specs.Reading.{reading_of}
 use Rattle.file_laws.proofs.Laws.{valid-alphabet, valid-letters, valid-sizes, valid-well_formed}
@@ -76,7 +76,7 @@ Matches-alike c first [] l e h = record { numbered = λ k. refl; only = λ m k p
 Matches-alike c first (x ∷ others) l e h = absurd (omega arith)
 
 -- a letter of the first, as a byte of the file
-letter-byte : (s : List ℕ) (a : Counts) → reading_of s ≡ Valid a → (l : ℕ) → l < a.letters → get_or (automaton_of s).alphabet l 0 ≡ get_or s (12 + l) 0
+letter-byte : (s : List ℕ) (a : Counts) → reading_of s ≡ Ok a → (l : ℕ) → l < a.letters → get_or (automaton_of s).alphabet l 0 ≡ get_or s (12 + l) 0
 letter-byte s a e l h = ap (λ (z : List ℕ). get_or z l 0) (valid-alphabet s a e) ∙ get_or-take a.letters (drop 12 s) l 0 h ∙ get_or-drop 12 s l 0
 
 -- the second's letters are lent: the place of the first's byte among them

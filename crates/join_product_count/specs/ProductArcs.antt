@@ -9,7 +9,7 @@ use Rattle.automata.specs.Joins.{arc_both, arc_left, alike, intersection, is_emp
 use Rattle.automata.specs.Words.{places}
 use Rattle.relettering.specs.Relettering.{letter_by}
 use Rattle.file_fields.specs.declared.Counts.{Counts}
-use Rattle.file_fields.specs.declared.Reading.TheVariants.{Valid}
+use Rattle.std.specs.Prelude.{Ok}
 use Rattle.file_fields.specs.Parts.{arc_size}
 use Rattle.format.specs.Decoding.{arc_of, automaton_of}
 use Rattle.format.specs.Encoding.{arcs_bytes}
@@ -54,8 +54,8 @@ numbers_by first others = places (automaton_of first).alphabet others
 
 -- two valid files, and the letters that the second's arcs are matched by
 pub record Matchable (a b : Counts) (s t others : List ℕ) : Type 0 where
-  pub first : reading_of s ≡ Valid a
-  pub second : reading_of t ≡ Valid b
+  pub first : reading_of s ≡ Ok a
+  pub second : reading_of t ≡ Ok b
   pub letters : Others s t others
 
 -- of the letters of a file with the counts c, u is the one that has the number l by this list, if any has it; and it is not the byte of an

@@ -2,10 +2,9 @@
 // and whether one has more than 8 operations, before any is written. They have the numbers of the first file's letters (document 02, change 6).
 #![tactic(auto)]
 
-ghost use Rattle.std.specs.Prelude.{◌≡◌, ◌++◌, ℕ, ◌+◌, ◌<◌, ◌≤◌, length, drop};
+ghost use Rattle.std.specs.Prelude.{◌≡◌, ◌++◌, ℕ, ◌+◌, ◌<◌, ◌≤◌, Ok, length, drop};
 ghost use Rattle.automata.specs.Automaton.{Arc};
 ghost use Rattle.automata.specs.Joins.{both_arcs, left_arcs};
-ghost use Rattle.file_fields.specs.declared.Reading.TheVariants.{Valid};
 ghost use Rattle.format.specs.Reading.{reading_of};
 ghost use Rattle.format.specs.Decoding.{arc_of, automaton_of};
 ghost use Rattle.join_parts.specs.OwnNumbers.{by_first};
@@ -14,7 +13,6 @@ ghost use Rattle.join_product_count.specs.ProductArcs.{FirstArc, Matchable, Othe
 use file_letters::numbering::place_of;
 use format::Counts;
 use format::fields::{arc_size, byte, first_arc};
-use join_parts::answer::larger;
 
 // What a count says of arcs: how many they are, how many bytes they take, whether one has more than 8 operations.
 #[derive(Clone, Copy)]
@@ -34,7 +32,7 @@ pub fn other_letter(first: &[u8], others: &[u8], letter: usize) -> u8
     if others.len() == 0 {
         return letter as u8;
     }
-    place_of(others, first[12 + letter]) as u8
+    place_of(others, first[12 + letter]).unwrap_or(others.len()) as u8
 }
 
 // The arc at a place of the first file with each arc of the second of its letter; where it is an empty move, beside each state of the second.
@@ -57,16 +55,14 @@ fn count_joint(first: &[u8], from: usize, b: Counts, second: &[u8], others: &[u8
     let mut sum: usize = 0;
     let mut most: usize = 0;
     let mut at = first_arc(b);
-    let mut i: usize = 0;
-    while i < b.arcs {
+    for _i in 0..b.arcs {
         let ops = p + byte(second, at + 3);
         if own == byte(second, at + 1) {
             arcs += 1;
             sum += ops;
-            most = larger(most, ops);
+            most = most.max(ops);
         }
         at += arc_size(second, at);
-        i += 1;
     }
     Tally {
         arcs,
@@ -85,35 +81,31 @@ fn count_first(a: Counts, first: &[u8], b: Counts, second: &[u8], others: &[u8])
     let mut size: usize = 0;
     let mut many = false;
     let mut from = first_arc(a);
-    let mut i: usize = 0;
-    while i < a.arcs {
+    for _i in 0..a.arcs {
         let t = count_joint(first, from, b, second, others);
         arcs += t.arcs;
         size += t.size;
         many = many | t.many;
         from += arc_size(first, from);
-        i += 1;
     }
     Tally { arcs, size, many }
 }
 
 // Each empty move of a file beside each of n states: arcs with as many operations as it has. Cost: the file's arcs.
 fn count_empty(c: Counts, file: &[u8], n: usize) -> Tally
-    requires { (reading_of file.now ≡ Valid c) × (n ≤ 256) }
+    requires { (reading_of file.now ≡ Ok c) × (n ≤ 256) }
     ensures { ((f : Arc → ℕ → Arc) → ((x : Arc) (i : ℕ) → length (f x i).ops ≡ length x.ops) → Tallied result (empty_with f n (automaton_of file.now).arcs)) × (result.arcs ≤ 524288) × (result.size ≤ 270532608) }
 {
     let mut arcs: usize = 0;
     let mut size: usize = 0;
     let mut from = first_arc(c);
-    let mut i: usize = 0;
-    while i < c.arcs {
+    for _i in 0..c.arcs {
         let bytes = arc_size(file, from);
         if byte(file, from + 1) == 255 {
             arcs += n;
             size += n * bytes;
         }
         from += bytes;
-        i += 1;
     }
     Tally {
         arcs,

@@ -2,10 +2,9 @@
 // has the number that it has in its own file, and there is room for the letters of both; which letters these are plays no part.
 #![tactic(auto)]
 
-ghost use Rattle.std.specs.Prelude.{◌≡◌, ◌+◌, ◌≤◌, length};
+ghost use Rattle.std.specs.Prelude.{◌≡◌, ◌+◌, ◌≤◌, Ok, length};
 ghost use Rattle.automata.specs.Automaton.{Automaton};
 ghost use Rattle.automata.specs.Joins.{union};
-ghost use Rattle.file_fields.specs.declared.Reading.TheVariants.{Valid};
 ghost use Rattle.format.specs.Reading.{reading_of};
 ghost use Rattle.format.specs.Decoding.{automaton_of};
 ghost use Rattle.format.specs.Encoding.{sizes, arcs_bytes, bytes_of};
@@ -16,10 +15,9 @@ ghost use Rattle.file_pair.specs.Pair.{Joinable, letters_of};
 ghost use Rattle.join_parts.specs.Joining.{join_of, written_of};
 ghost use Rattle.join_parts.specs.OwnNumbers.{roomy};
 
-use file_writing::Written;
 use file_writing::parts::write_byte;
-use format::Counts;
-use join_parts::answer::{arcs_size, decide, larger};
+use format::{Counts, Refusal};
+use join_parts::answer::{arcs_size, decide};
 use join_parts::flags::{write_flags, write_roomy_front};
 use join_parts::groups::{write_entry, write_moved_arcs};
 
@@ -31,8 +29,8 @@ fn union_counts(letters: usize, a: Counts, b: Counts) -> Counts
     Counts {
         letters,
         states: 1 + a.states + b.states,
-        registers: larger(a.registers, b.registers),
-        symbols: larger(a.symbols, b.symbols),
+        registers: a.registers.max(b.registers),
+        symbols: a.symbols.max(b.symbols),
         arcs: 2 + a.arcs + b.arcs,
     }
 }
@@ -46,7 +44,7 @@ fn write_union_arcs(
     b: Counts,
     second: &[u8],
 ) -> usize
-    requires { (reading_of first.now ≡ Valid a) × (reading_of second.now ≡ Valid b) × (1 + a.states + b.states ≤ 256) × (at + length (arcs_bytes (union (automaton_of first.now) (automaton_of second.now)).arcs) ≤ length out.old) }
+    requires { (reading_of first.now ≡ Ok a) × (reading_of second.now ≡ Ok b) × (1 + a.states + b.states ≤ 256) × (at + length (arcs_bytes (union (automaton_of first.now) (automaton_of second.now)).arcs) ≤ length out.old) }
     ensures { Appended at (arcs_bytes (union (automaton_of first.now) (automaton_of second.now)).arcs) out.old out.new result }
 {
     let shift = 1 + a.states;
@@ -65,7 +63,7 @@ fn write_union(
     b: Counts,
     second: &[u8],
 ) -> usize
-    requires { (reading_of first.now ≡ Valid a) × (reading_of second.now ≡ Valid b) × (sizes (roomy c.letters (union (automaton_of first.now) (automaton_of second.now))) ≡ c) × Ranges c × (a.letters ≤ c.letters) × (length (bytes_of (roomy c.letters (union (automaton_of first.now) (automaton_of second.now)))) ≤ length out.old) }
+    requires { (reading_of first.now ≡ Ok a) × (reading_of second.now ≡ Ok b) × (sizes (roomy c.letters (union (automaton_of first.now) (automaton_of second.now))) ≡ c) × Ranges c × (a.letters ≤ c.letters) × (length (bytes_of (roomy c.letters (union (automaton_of first.now) (automaton_of second.now)))) ≤ length out.old) }
     ensures { Appended 0 (bytes_of (roomy c.letters (union (automaton_of first.now) (automaton_of second.now)))) out.old out.new result }
 {
     let flags = write_roomy_front(out, c, a, first);
@@ -84,17 +82,14 @@ pub fn unite(
     b: Counts,
     second: &[u8],
     letters: usize,
-) -> Written
+) -> Result<usize, Refusal>
     requires { Joinable a b first.now second.now × (letters ≡ length (letters_of first.now second.now)) }
     ensures answer { result ≡ written_of (join_of union first.now second.now) (length out.old) }
     ensures output { out.new ≡ output_of result (bytes_of (roomy letters (union (automaton_of first.now) (automaton_of second.now)))) out.old }
 {
     let c = union_counts(letters, a, b);
     let size = 24 + c.letters + c.states + arcs_size(a, first) + arcs_size(b, second);
-    let answer = decide(c, size, out.len());
-    let Written::Bytes(_) = answer else {
-        return answer;
-    };
+    let length = decide(c, size, out.len())?;
     write_union(out, c, a, first, b, second);
-    answer
+    Ok(length)
 }

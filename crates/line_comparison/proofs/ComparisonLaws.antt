@@ -9,11 +9,14 @@ use lib.Seq.{take_all, take_at}
 use Rattle.automata.specs.Pairs.{Verdict, different, same}
 use Rattle.relettering.specs.Relettering.{letters_of_both}
 use Rattle.format.specs.Decoding.{automaton_of}
-use Rattle.format.specs.Refusals.{unless_refused}
+use Rattle.format.specs.Refusals.{Refusals, unless_refused}
+use Rattle.file_fields.specs.declared.Automaton.TheVariants.{Second}
+use Rattle.file_fields.specs.declared.Reason.TheVariants.{TooManyConfigurations}
+use Rattle.std.specs.Prelude.{Some}
 use Rattle.line_text.specs.Digits.{decimal_of, hex_of}
 use Rattle.line_text.specs.Line.{ascii}
 use Rattle.line_text.specs.Writing.{Writes}
-use Rattle.compare_promise.specs.Comparing.{answer_of, buffer_of, bytes_in, comparison_of, refusals, shown_word, verdict_of}
+use Rattle.compare_promise.specs.Comparing.{answer_of, buffer_of, bytes_in, comparison_of, refusals, refused, shown_word, verdict_of}
 use Rattle.compare_promise.specs.declared.Comparison.{Comparison}
 use Rattle.compare_promise.specs.declared.Comparison.TheVariants.{Different, Refused, Same}
 use Rattle.line_comparison.specs.ComparisonLines.{comparison_line, line_of}
@@ -33,12 +36,12 @@ module _ (alphabet old : List ℕ) where
       rw (take_at word (drop (length word) old) (length v) long, take_all (length v) word (omega arith))
 
   -- of a list of refusals before it
-  alike-after : (l : List (Bool × ℕ × ℕ)) (v : Verdict) → Alike (bytes_in alphabet v) old (unless_refused Refused l (answer_of v))
+  alike-after : (l : Refusals) (v : Verdict) → Alike (bytes_in alphabet v) old (unless_refused refused l (answer_of v))
   unfolding unless_refused
   alike-after [] v = alike-answer v
   alike-after (t ∷ l) v = go t.0 (alike-after l v)
     where
-      go : (b : Bool) → Alike (bytes_in alphabet v) old (unless_refused Refused l (answer_of v)) → Alike (bytes_in alphabet v) old (cond b (Refused t.1 t.2) (unless_refused Refused l (answer_of v)))
+      go : (b : Bool) → Alike (bytes_in alphabet v) old (unless_refused refused l (answer_of v)) → Alike (bytes_in alphabet v) old (cond b (refused t.1 t.2) (unless_refused refused l (answer_of v)))
       go true later = refl
       go false later = later
 
@@ -79,6 +82,6 @@ told-empty : comparison_line (Different 12 2 0) (101 ∷ []) ≡ ascii "TAKES2 1
 unfolding decimal_of hex_of
 told-empty = refl
 
-told-refused : comparison_line (Refused 21 2) [] ≡ ascii "REFUSED 21 2\n"
+told-refused : comparison_line (Refused (record { reason = TooManyConfigurations; automaton = Some Second })) [] ≡ ascii "REFUSED 21 2\n"
 unfolding decimal_of
 told-refused = refl

@@ -2,29 +2,30 @@
 use mathlib.Core.Path.{◌≡◌, refl}
 use mathlib.Core.Bool.{Bool, cond, false, true}
 use mathlib.Core.List.{List, [], ◌∷◌}
-use mathlib.Core.Option.{Option, none, some}
+use Rattle.std.proofs.Math.Option as math
+use Rattle.std.specs.Prelude.{None, Option, Some}
 use Prim.Native.Nat.{ℕ, zero, suc, ◌*◌, ◌/◌, ◌^◌, ◌≤◌, ◌<◌}
 use native.Mathlib.Decide.{dec_lt}
 use native.Mathlib.Nat.{pow-suc}
 use native.Mathlib.Omega.{arith}
-use borrow.Author.Tests.{ltb-false}
-use lib.Dec.{eqb}
+use borrow.Author.Tests.{ltb-false, ltb-true}
+use lib.Dec.{eqb, ltb}
 use lib.ListN.{length, length-append, length-take, take}
 use Rattle.automata.specs.Automaton.{Automaton}
 use Rattle.automata.specs.Pairs.{Pair, differ, first_passing, judged, pairs, verdict}
 use Rattle.automata.specs.Search.{Entry}
 use Rattle.relettering.specs.Relettering.{letters_of_both, relettered}
 use Rattle.format.specs.Decoding.{automaton_of}
-use Rattle.file_fields.specs.Parts.{number_of}
-use Rattle.format.specs.Reading.{reading_of}
-use Rattle.format.specs.Refusals.{fault_of, unless_refused}
-use Rattle.file_fields.specs.declared.Reading.{Reading}
-use Rattle.file_fields.specs.declared.Reading.TheVariants.{Refused as Fault, Valid}
-use Rattle.file_laws.proofs.Laws.{number-between, number-range}
+use Rattle.file_fields.specs.Parts.{automaton_number, number_of}
+use Rattle.file_fields.specs.declared.Automaton.{Automaton as Blamed}
+use Rattle.file_fields.specs.declared.Automaton.TheVariants.{First, Second}
+use Rattle.file_fields.specs.declared.Reason.{Reason}
+use Rattle.file_fields.specs.declared.Reason.TheVariants.{EndsInsideAField, Mark, Version, HeaderCount, LettersNotAscending, FinalFlag, ArcSource, ArcLetter, ArcTarget, ArcOperations, Operation, BytesAfterTheLastArc, JoinedBeyondALimit, TooManyConfigurations, TooManyPlainArcs, TooManyLiveSets, TooLittleMemoryLent, OutputTooShort, LengthTooLarge, BadRanges}
+use Rattle.format.specs.Refusals.{Refusals, unless_refused}
 use Rattle.line_text.specs.Digits.{decimal_of, hex_digits, hex_of}
 use Rattle.line_text.specs.Line.{ascii}
 use Rattle.line_text.proofs.Laws.{decimal_more, decimal_one}
-use Rattle.compare_promise.specs.Comparing.{answer_of, buffer_of, comparison_of, count_refusals, limit_refusals, refusals, table_refusals, verdict_of}
+use Rattle.compare_promise.specs.Comparing.{answer_of, buffer_of, comparison_of, count_refusals, limit_refusals, refusals, refused, table_refusals, verdict_of}
 use Rattle.compare_promise.specs.declared.Comparison.{Comparison}
 use Rattle.compare_promise.specs.declared.Comparison.TheVariants.{Different, Refused, Same}
 use Rattle.line_comparison.specs.ComparisonLines.{comparison_line}
@@ -54,37 +55,58 @@ hex_short (b ∷ s) h = omega (arith, hex_digits_lem (b ∷ s))
 abbrev Small : Comparison → Type 0
 Small (Same n) = n ≤ 512
 Small (Different n taker size) = n ≤ 512
-Small (Refused n b) = (n < 100) × (b < 10)
+Small (Refused r) = (number_of r.reason < 100) × (automaton_number r.automaton < 10)
 
--- refusals with such numbers, and no test of them holds
-abbrev AllSmall : List (Bool × ℕ × ℕ) → Type 0
-AllSmall [] = Unit {0}
-AllSmall (t ∷ l) = ((t.1 < 100) × (t.2 < 10)) × AllSmall l
+-- the number of each reason has at most two digits
+two_digits : (r : Reason) → number_of r < 100
+two_digits r = ltb-true (number_of r) 100 (go r)
+  where
+    go : (r : Reason) → ltb (number_of r) 100 ≡ true
+    go EndsInsideAField = refl
+    go Mark = refl
+    go Version = refl
+    go HeaderCount = refl
+    go LettersNotAscending = refl
+    go FinalFlag = refl
+    go ArcSource = refl
+    go ArcLetter = refl
+    go ArcTarget = refl
+    go ArcOperations = refl
+    go Operation = refl
+    go BytesAfterTheLastArc = refl
+    go JoinedBeyondALimit = refl
+    go TooManyConfigurations = refl
+    go TooManyPlainArcs = refl
+    go TooManyLiveSets = refl
+    go TooLittleMemoryLent = refl
+    go OutputTooShort = refl
+    go LengthTooLarge = refl
+    go BadRanges = refl
 
-abbrev NoneHolds : List (Bool × ℕ × ℕ) → Type 0
+-- that of an automaton has one
+one_digit : (whose : Option Blamed) → automaton_number whose < 10
+one_digit None = omega arith
+one_digit (Some First) = omega arith
+one_digit (Some Second) = omega arith
+
+-- no test of a list of refusals holds
+abbrev NoneHolds : Refusals → Type 0
 NoneHolds [] = Unit {0}
 NoneHolds (t ∷ l) = (t.0 ≡ false) × NoneHolds l
 
-small-after : (l : List (Bool × ℕ × ℕ)) (a : Comparison) → AllSmall l → (NoneHolds l → Small a) → Small (unless_refused Refused l a)
+small-after : (l : Refusals) (a : Comparison) → (NoneHolds l → Small a) → Small (unless_refused refused l a)
 unfolding unless_refused
-small-after [] a s f = f tt
-small-after (t ∷ l) a s f = go t.0 refl (λ e. small-after l a s.1 (λ n. f (e, n)))
+small-after [] a f = f tt
+small-after (t ∷ l) a f = go t.0 refl (λ e. small-after l a (λ n. f (e, n)))
   where
-    go : (b : Bool) → t.0 ≡ b → (t.0 ≡ false → Small (unless_refused Refused l a)) → Small (cond b (Refused t.1 t.2) (unless_refused Refused l a))
-    go true e later = s.0
+    go : (b : Bool) → t.0 ≡ b → (t.0 ≡ false → Small (unless_refused refused l a)) → Small (cond b (refused t.1 t.2) (unless_refused refused l a))
+    go true e later = (two_digits t.1, one_digit t.2)
     go false e later = later e
 
-small-answer : (x y : Automaton) (L n : ℕ) (o : Option (Entry Pair)) → n ≤ 512 → Small (answer_of (judged x y L n o))
+small-answer : (x y : Automaton) (L n : ℕ) (o : math.Option (Entry Pair)) → n ≤ 512 → Small (answer_of (judged x y L n o))
 unfolding judged
-small-answer x y L n none h = h
-small-answer x y L n (some e) h = h
-
-fault_small : (file : List ℕ) → fault_of file < 100
-fault_small file = go (reading_of file) refl
-  where
-    go : (r : Reading) → reading_of file ≡ r → number_of r < 100
-    go (Valid c) e = omega arith
-    go (Fault n place) e = (number-between (number-range file n e)).1
+small-answer x y L n math.none h = h
+small-answer x y L n (math.some e) h = h
 
 module _ (first second : List ℕ) (words buffer : ℕ) where
   abbrev x : Automaton
@@ -97,35 +119,13 @@ module _ (first second : List ℕ) (words buffer : ℕ) where
   unfolding verdict
   small-compared h = small-answer x y 256 (length (pairs x y 256 512)) (first_passing x y 256 differ 512) h
 
-  all_small : AllSmall (refusals 256 2048 512 first second words buffer)
-  unfolding refusals table_refusals limit_refusals count_refusals
-  all_small = (
-    (omega arith, omega arith),
-    (
-      (fault_small first, omega arith),
-      (
-        (fault_small second, omega arith),
-        (
-          (omega arith, omega arith),
-          (
-            (omega arith, omega arith),
-            (
-              (omega arith, omega arith),
-              ((omega arith, omega arith), ((omega arith, omega arith), ((omega arith, omega arith), tt))),
-            ),
-          ),
-        ),
-      ),
-    ),
-  )
-
   few : NoneHolds (refusals 256 2048 512 first second words buffer) → length (pairs x y 256 512) ≤ 512
   unfolding refusals table_refusals limit_refusals count_refusals
   few h = ltb-false 512 (length (pairs x y 256 512)) h.1.1.1.1.1.1.1.1.0
 
   small : Small (comparison_of first second words buffer)
   unfolding comparison_of verdict_of
-  small = small-after (refusals 256 2048 512 first second words buffer) (answer_of (verdict x y 256 512)) all_small (λ h. small-compared (few h))
+  small = small-after (refusals 256 2048 512 first second words buffer) (answer_of (verdict x y 256 512)) (λ h. small-compared (few h))
 
 -- ---- the line
 six : (b : Bool) → length (cond b (ascii "TAKES1") (ascii "TAKES2")) ≡ 6
@@ -139,7 +139,7 @@ short-line (Different n taker size) word old s e =
     let long : length word ≤ 512 = omega (arith, rw length-append at e) in
     let shown : length (hex_of (take size word)) ≤ 1024 = hex_short (take size word) (omega (arith, length-take size word)) in
     simp length-append (omega (arith, six (eqb taker 1), digits 2 n (omega arith), shown))
-short-line (Refused n b) word old s e = simp length-append (omega (arith, digits 1 n (omega arith), digits 0 b (omega arith)))
+short-line (Refused r) word old s e = simp length-append (omega (arith, digits 1 (number_of r.reason) (omega arith), digits 0 (automaton_number r.automaton) (omega arith)))
 
 -- The line of two files.
 pub short : (first second : List ℕ) (words buffer : ℕ) (word old : List ℕ) → length (buffer_of (comparison_of first second words buffer) word old) ≡ 512 → length (comparison_line (comparison_of first second words buffer) word) ≤ 1036

@@ -4,17 +4,30 @@
 
 ghost use Rattle.std.specs.Prelude.{◌≤◌, length};
 ghost use Rattle.line_text.specs.Writing.{Writes};
-ghost use Rattle.line_comparison.specs.ComparisonLines.{comparison_case_line, comparison_line, different_line, line_of, same_line, taker_line};
+ghost use Rattle.line_comparison.specs.ComparisonLines.{comparison_case_line, comparison_line, different_line, line_of, same_told, taker_line, told_line};
 
 use compare::Comparison;
+use line_text::Line;
+
+// The words of a line: that the two accept the same, what ends that line, which automaton accepts the shown word, and that they are refused.
+#[derive(Clone, Copy)]
+struct Words<'a> {
+    same: &'a [u8],
+    end: &'a [u8],
+    first: &'a [u8],
+    second: &'a [u8],
+    refused: &'a [u8],
+}
 
 // The two accept the same words. Cost: the bytes of the line.
-fn same_line(pairs: u64, out: &mut [u8]) -> usize
-    ensures { Writes (same_line pairs) 0 result out.old out.new }
+fn same_line(answer: &[u8], pairs: u64, end: &[u8], out: &mut [u8]) -> usize
+    ensures { Writes (same_told answer.now pairs end.now) 0 result out.old out.new }
 {
-    let mut at = line_text::put(b"SAME", out, 0);
-    at = line_text::decimal_field(pairs, out, at);
-    line_text::put(b" -\n", out, at)
+    let mut line = Line { out, at: 0 };
+    line.put(answer);
+    line.decimal_field(pairs);
+    line.put(end);
+    line.at
 }
 
 // The two differ: a word for that, the number of pairs, and the n bytes at the front of `word`, or all where there are fewer.
@@ -22,10 +35,12 @@ fn same_line(pairs: u64, out: &mut [u8]) -> usize
 fn different_line(answer: &[u8], pairs: u64, word: &[u8], n: usize, out: &mut [u8]) -> usize
     ensures { Writes (different_line answer.now pairs word.now n) 0 result out.old out.new }
 {
-    let mut at = line_text::put(answer, out, 0);
-    at = line_text::decimal_field(pairs, out, at);
-    at = line_text::front_field(word, n, out, at);
-    line_text::put_byte(b'\n', out, at)
+    let mut line = Line { out, at: 0 };
+    line.put(answer);
+    line.decimal_field(pairs);
+    line.front_field(word, n);
+    line.put_byte(b'\n');
+    line.at
 }
 
 // The same, where the answer is `one` if automaton 1 accepts the word, else `two`. Cost: the bytes of the line.
@@ -46,22 +61,38 @@ fn taker_line(
     different_line(two, pairs, word, n, out)
 }
 
+// What comparing answers, in these words; the shown word stands at the front of `word`. Cost: the bytes of the line.
+fn told_line(words: Words, r: Comparison, word: &[u8], out: &mut [u8]) -> usize
+    ensures { Writes (told_line words.entry.same.now words.entry.end.now words.entry.first.now words.entry.second.now words.entry.refused.now r word.now) 0 result out.old out.new }
+{
+    match r {
+        Comparison::Same(pairs) => same_line(words.same, pairs, words.end, out),
+        Comparison::Different {
+            pairs,
+            taker,
+            length,
+        } => taker_line(words.first, words.second, taker, pairs, word, length, out),
+        Comparison::Refused(refusal) => {
+            let number = refusal.reason.number();
+            let automaton = refusal.automaton_number();
+            line_answers::refusal_line(words.refused, number, automaton, out)
+        }
+    }
+}
+
 // What comparing answers, as the program `bookcompare` tells it; the shown word stands at the front of `word`.
 // Cost: the bytes of the line.
 pub fn answer_line(r: Comparison, word: &[u8], out: &mut [u8]) -> usize
     ensures { Writes (comparison_line r word.now) 0 result out.old out.new }
 {
-    match r {
-        Comparison::Same(pairs) => same_line(pairs, out),
-        Comparison::Different {
-            pairs,
-            taker,
-            length,
-        } => taker_line(b"TAKES1", b"TAKES2", taker, pairs, word, length, out),
-        Comparison::Refused { number, automaton } => line_answers::refusal_line(
-            b"REFUSED", number, automaton, out,
-        ),
-    }
+    let words = Words {
+        same: b"SAME",
+        end: b" -\n",
+        first: b"TAKES1",
+        second: b"TAKES2",
+        refused: b"REFUSED",
+    };
+    told_line(words, r, word, out)
 }
 
 // What comparing answers, as the program `cases` tells it; the shown word stands at the front of `word`.
@@ -69,17 +100,14 @@ pub fn answer_line(r: Comparison, word: &[u8], out: &mut [u8]) -> usize
 pub fn case_line(r: Comparison, word: &[u8], out: &mut [u8]) -> usize
     ensures { Writes (comparison_case_line r word.now) 0 result out.old out.new }
 {
-    match r {
-        Comparison::Same(pairs) => line_answers::count_line(b"same", pairs, out),
-        Comparison::Different {
-            pairs,
-            taker,
-            length,
-        } => taker_line(b"takes1", b"takes2", taker, pairs, word, length, out),
-        Comparison::Refused { number, automaton } => line_answers::refused_line(
-            number, automaton, out,
-        ),
-    }
+    let words = Words {
+        same: b"same",
+        end: b"\n",
+        first: b"takes1",
+        second: b"takes2",
+        refused: b"refused",
+    };
+    told_line(words, r, word, out)
 }
 
 // Compares two files with the working memory lent, and writes the line of the answer.

@@ -6,25 +6,27 @@ ghost use Rattle.line_text.specs.Writing.{Writes};
 ghost use Rattle.line_counts.specs.CountLines.{counted_line, word_count_line};
 
 use count_promise::WordCount;
+use format::Refusal;
+use line_text::Line;
 
 // The words that are accepted, then those that are not. Cost: the bytes written.
 fn counted_line(accepted: u64, rejected: u64, out: &mut [u8]) -> usize
     ensures { Writes (counted_line accepted rejected) 0 result out.old out.new }
 {
-    let mut at = line_text::put(b"counted", out, 0);
-    at = line_text::decimal_field(accepted, out, at);
-    at = line_text::decimal_field(rejected, out, at);
-    line_text::put_byte(b'\n', out, at)
+    let mut line = Line { out, at: 0 };
+    line.put(b"counted");
+    line.decimal_field(accepted);
+    line.decimal_field(rejected);
+    line.put_byte(b'\n');
+    line.at
 }
 
 // What counting answers, as the program `cases` tells it. Cost: the bytes written.
-pub fn word_count_line(r: WordCount, out: &mut [u8]) -> usize
+pub fn word_count_line(r: Result<WordCount, Refusal>, out: &mut [u8]) -> usize
     ensures { Writes (word_count_line r) 0 result out.old out.new }
 {
     match r {
-        WordCount::Counted { accepted, rejected } => counted_line(accepted, rejected, out),
-        WordCount::Refused { number, automaton } => line_answers::refused_line(
-            number, automaton, out,
-        ),
+        Ok(n) => counted_line(n.accepted, n.rejected, out),
+        Err(refusal) => line_answers::refused_line(refusal, out),
     }
 }

@@ -5,16 +5,27 @@
 ghost use Rattle.line_text.specs.Writing.{Writes};
 ghost use Rattle.line_ranges.specs.RangeLines.{ranged_line};
 
-use ranges_promise::Ranged;
+use format::Refusal;
+use line_text::Line;
+use ranges_promise::Fillings;
+
+// A line of these bytes alone. Cost: the bytes written.
+fn word_line(text: &[u8], out: &mut [u8]) -> usize
+    ensures { Writes text.now 0 result out.old out.new }
+{
+    let mut line = Line { out, at: 0 };
+    line.put(text);
+    line.at
+}
 
 // What is answered of a word with ranges, as the program `cases` tells it. Cost: the bytes written.
-pub fn ranged_line(answer: Ranged, out: &mut [u8]) -> usize
+pub fn ranged_line(answer: Result<Fillings, Refusal>, out: &mut [u8]) -> usize
     ensures { Writes (ranged_line answer) 0 result out.old out.new }
 {
     match answer {
-        Ranged::Always => line_text::put(b"always\n", out, 0),
-        Ranged::Sometimes => line_text::put(b"sometimes\n", out, 0),
-        Ranged::Never => line_text::put(b"never\n", out, 0),
-        Ranged::Refused { number, automaton } => line_answers::refused_line(number, automaton, out),
+        Ok(Fillings::Always) => word_line(b"always\n", out),
+        Ok(Fillings::Sometimes) => word_line(b"sometimes\n", out),
+        Ok(Fillings::Never) => word_line(b"never\n", out),
+        Err(refusal) => line_answers::refused_line(refusal, out),
     }
 }

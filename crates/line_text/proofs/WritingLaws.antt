@@ -6,8 +6,8 @@ use native.Mathlib.Omega.{arith}
 use native.Mathlib.Numerals.{add-one}
 use native.Mathlib.Nat.{add_assoc, add-zero}
 use mathlib.Core.List.{List, [], ◌∷◌, ◌++◌, append_assoc, append-nil}
-use lib.ListN.{get_or, length, take, drop, set, length-append}
-use lib.Seq.{append_snoc, drop-drop, drop-paste, length-paste, paste, paste-zero, set_split, take_all, take-append-add, take-append-le, take-paste, take-suc}
+use lib.ListN.{get_or, length, take, drop, length-append}
+use lib.Seq.{drop-drop, drop-paste, length-paste, paste, paste-zero, take_all, take-append-add, take-append-le, take-paste, take-suc}
 use Rattle.line_text.specs.Writing.{fitting, Writes}
 
 -- ---- one part
@@ -15,19 +15,13 @@ use Rattle.line_text.specs.Writing.{fitting, Writes}
 pub nothing : (text : List ℕ) (at : ℕ) (old : List ℕ) → fitting text at old ≡ 0 → Writes text at at old old
 nothing text at old none = record { ends = omega arith; holds = rw none (paste-zero old at text) }
 
--- a byte that has room is stored
-pub stored : (b at : ℕ) (old : List ℕ) → at < length old → Writes (b ∷ []) at (at + 1) old (set old at b)
-stored b at old h =
-    let one : fitting (b ∷ []) at old ≡ 1 = omega arith in
-    record { ends = omega arith; holds = rw (one, add-one, append_snoc (take at old)) (set_split old at b h) }
-
 module _ {text : List ℕ} {at end : ℕ} {old new : List ℕ} (w : Writes text at end old new) where
   -- behind the last byte nothing is written
   unchanged : length old ≤ at → new ≡ old
   unchanged h = let none : fitting text at old ≡ 0 = omega arith in w.holds ∙ rw none (sym (paste-zero old at text))
 
   -- the bytes stay as many as they were
-  pub same_length : length new ≡ length old
+  same_length : length new ≡ length old
   same_length = go (dec_le at (length old))
     where
       go : Dec (at ≤ length old) → length new ≡ length old

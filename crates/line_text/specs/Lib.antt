@@ -1,3 +1,4 @@
 pub mod Writing
 pub mod Digits
 pub mod Line
+pub mod Putting

@@ -1,46 +1,17 @@
 // line_text: numbers, bytes and words as ASCII text in bytes that the caller lends (document 01, `bookcompare`).
-// Each function writes at a place and answers the place behind what it wrote, so that a line is assembled by one call
-// after the other. What has no room is cut: an answer below the length of `out` tells that nothing was.
+// A line is put together by one call after the other, each of which writes behind the one before. What has no room is cut: a line that
+// ends below the length of its bytes tells that nothing was.
 #![tactic(auto)]
 
 ghost use Rattle.std.specs.Prelude.{◌≡◌, ◌<◌, [], ◌∷◌, take};
-ghost use Rattle.line_text.specs.Writing.{Writes};
 ghost use Rattle.line_text.specs.Digits.{decimal_of, digit_of, hex_digits, hex_of};
+ghost use Rattle.line_text.specs.Putting.{Puts};
 
-// One byte. Cost: constant.
-pub fn put_byte(b: u8, out: &mut [u8], at: usize) -> usize
-    ensures { Writes (b ∷ []) at result out.old out.new }
-{
-    if at < out.len() {
-        out[at] = b;
-        return at + 1;
-    }
-    at
-}
-
-// The bytes of `s` as they are. Cost: one pass over `s`.
-pub fn put(s: &[u8], out: &mut [u8], at: usize) -> usize
-    ensures { Writes s.now at result out.old out.new }
-{
-    let mut end = at;
-    let mut i: usize = 0;
-    while i < s.len() {
-        end = put_byte(s[i], out, end);
-        i += 1;
-    }
-    end
-}
-
-// A number in decimal digits. Cost: its digits.
-pub fn decimal(n: u64, out: &mut [u8], at: usize) -> usize
-    ensures { Writes (decimal_of n) at result out.old out.new }
-{
-    let last = b'0' + (n % 10) as u8;
-    if n < 10 {
-        return put_byte(last, out, at);
-    }
-    let end = decimal(n / 10, out, at);
-    put_byte(last, out, end)
+// Bytes that the caller lends, and the place in them behind what is written so far.
+#[derive(Drop)]
+pub struct Line<'a> {
+    pub out: &'a mut [u8],
+    pub at: usize,
 }
 
 // The digit of a number below 16. Cost: constant.
@@ -51,59 +22,87 @@ fn digit(d: u8) -> u8
     if d < 10 { b'0' + d } else { b'a' + (d - 10) }
 }
 
-// One byte in two hexadecimal digits. Cost: constant.
-fn hex_byte(b: u8, out: &mut [u8], at: usize) -> usize
-    ensures { Writes (hex_digits (b ∷ [])) at result out.old out.new }
-{
-    let end = put_byte(digit(b / 16), out, at);
-    put_byte(digit(b % 16), out, end)
-}
-
-// The bytes of `s` in hexadecimal. Cost: one pass over `s`.
-fn hex_bytes(s: &[u8], out: &mut [u8], at: usize) -> usize
-    ensures { Writes (hex_digits s.now) at result out.old out.new }
-{
-    let mut end = at;
-    let mut i: usize = 0;
-    while i < s.len() {
-        end = hex_byte(s[i], out, end);
-        i += 1;
+impl<'a> Line<'a> {
+    // One byte. Cost: constant.
+    pub fn put_byte(&mut self, b: u8)
+        ensures { Puts (b ∷ []) self.old self.new }
+    {
+        if self.at < self.out.len() {
+            self.out[self.at] = b;
+            self.at += 1;
+        }
     }
-    end
-}
 
-// The bytes of `s` as a field of a line: in hexadecimal, `.` for none. Cost: one pass over `s`.
-pub fn hex(s: &[u8], out: &mut [u8], at: usize) -> usize
-    ensures { Writes (hex_of s.now) at result out.old out.new }
-{
-    if s.len() == 0 {
-        return put_byte(b'.', out, at);
+    // The bytes of `s` as they are. Cost: one pass over `s`.
+    pub fn put(&mut self, s: &[u8])
+        ensures { Puts s.now self.old self.new }
+    {
+        for b in s {
+            self.put_byte(*b);
+        }
     }
-    hex_bytes(s, out, at)
-}
 
-// A further field of a line: a space, then a number in decimal digits. Cost: its digits.
-pub fn decimal_field(n: u64, out: &mut [u8], at: usize) -> usize
-    ensures { Writes (32 ∷ decimal_of n) at result out.old out.new }
-{
-    let end = put_byte(b' ', out, at);
-    decimal(n, out, end)
-}
-
-// A further field of a line: a space, then the bytes of `s` in hexadecimal, `.` for none. Cost: one pass over `s`.
-pub fn hex_field(s: &[u8], out: &mut [u8], at: usize) -> usize
-    ensures { Writes (32 ∷ hex_of s.now) at result out.old out.new }
-{
-    let end = put_byte(b' ', out, at);
-    hex(s, out, end)
-}
-
-// The same of the first n bytes of `s`, and of all where there are fewer. Cost: one pass over them.
-pub fn front_field(s: &[u8], n: usize, out: &mut [u8], at: usize) -> usize
-    ensures { Writes (32 ∷ hex_of (take n s.now)) at result out.old out.new }
-{
-    if s.len() < n {
-        return hex_field(s, out, at);
+    // A number in decimal digits. Cost: its digits.
+    pub fn decimal(&mut self, n: u64)
+        ensures { Puts (decimal_of n) self.old self.new }
+    {
+        let last = b'0' + (n % 10) as u8;
+        if n < 10 {
+            self.put_byte(last);
+            return;
+        }
+        self.decimal(n / 10);
+        self.put_byte(last);
     }
-    hex_field(&s[0..n], out, at)
+
+    // One byte in two hexadecimal digits. Cost: constant.
+    fn hex_byte(&mut self, b: u8)
+        ensures { Puts (hex_digits (b ∷ [])) self.old self.new }
+    {
+        self.put_byte(digit(b / 16));
+        self.put_byte(digit(b % 16));
+    }
+
+    // The bytes of `s` in hexadecimal. Cost: one pass over `s`.
+    fn hex_bytes(&mut self, s: &[u8])
+        ensures { Puts (hex_digits s.now) self.old self.new }
+    {
+        for b in s {
+            self.hex_byte(*b);
+        }
+    }
+
+    // The bytes of `s` as a field of a line: in hexadecimal, `.` for none. Cost: one pass over `s`.
+    pub fn hex(&mut self, s: &[u8])
+        ensures { Puts (hex_of s.now) self.old self.new }
+    {
+        if s.is_empty() {
+            self.put_byte(b'.');
+            return;
+        }
+        self.hex_bytes(s);
+    }
+
+    // A further field of a line: a space, then a number in decimal digits. Cost: its digits.
+    pub fn decimal_field(&mut self, n: u64)
+        ensures { Puts (32 ∷ decimal_of n) self.old self.new }
+    {
+        self.put_byte(b' ');
+        self.decimal(n);
+    }
+
+    // A further field of a line: a space, then the bytes of `s` in hexadecimal, `.` for none. Cost: one pass over `s`.
+    pub fn hex_field(&mut self, s: &[u8])
+        ensures { Puts (32 ∷ hex_of s.now) self.old self.new }
+    {
+        self.put_byte(b' ');
+        self.hex(s);
+    }
+
+    // The same of the first n bytes of `s`, and of all where there are fewer. Cost: one pass over them.
+    pub fn front_field(&mut self, s: &[u8], n: usize)
+        ensures { Puts (32 ∷ hex_of (take n s.now)) self.old self.new }
+    {
+        self.hex_field(&s[0..n.min(s.len())]);
+    }
 }

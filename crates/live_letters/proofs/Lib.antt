@@ -1,6 +1,7 @@
 pub mod TableFrames
 pub mod MeetRow
 pub mod NextLetters
-pub mod MeetLetters
+pub mod MetAllLaws
+mod MeetAll
 pub mod Walking
 pub mod Laws

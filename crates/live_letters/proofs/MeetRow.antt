@@ -1,4 +1,5 @@
 -- MeetRow: a row that is met joins the table just if what it stands for joins a list; and so of the entries of an exploration.
+use Rattle.std.proofs.Common.{Option, Some, None}
 use mathlib.Core.Path.{◌∙◌, ◌≡◌, ap, subst, sym}
 use mathlib.Core.Logic.{◌⊎◌, inl, inr, ⊎_elim}
 use mathlib.Core.Bool.{Bool, ◌||◌, true, false}
@@ -22,22 +23,20 @@ use Rattle.word_layout.specs.Layout.{parents_at, table_end}
 use Rattle.word_layout.specs.declared.SetTable.{SetTable}
 use Rattle.live_table.specs.Entries.{Holds, Row, Side, alike, letter_of, parent_of}
 use Rattle.live_table.specs.SetRows.{Added, Lacking, Met, RowAt, left_row, right_row}
-use Rattle.live_table.specs.declared.Grown.{Grown}
-use Rattle.live_table.specs.declared.Grown.TheVariants.{TooMany, Total}
 use Rattle.live_letters.specs.Meeting.{EmptyRow, Grows, Outcome, Table}
 
 -- ---- whatever the words stand for
-pub met-kept : (tab : SetTable) (w w' u v : List ℕ) (n from : ℕ) (r : Grown) → Met tab w w' n u v from r → Kept tab.rows (table_end tab) w w'
-met-kept tab w w' u v n from TooMany f = subst (λ (x : List ℕ). Kept tab.rows (table_end tab) w x) (sym f.same) (kept_same tab.rows (table_end tab) w)
-met-kept tab w w' u v n from (Total m) (inl o) = subst (λ (x : List ℕ). Kept tab.rows (table_end tab) w x) (sym o.same) (kept_same tab.rows (table_end tab) w)
-met-kept tab w w' u v n from (Total m) (inr o) = o.added.kept
+pub met-kept : (tab : SetTable) (w w' u v : List ℕ) (n from : ℕ) (r : Option ℕ) → Met tab w w' n u v from r → Kept tab.rows (table_end tab) w w'
+met-kept tab w w' u v n from None f = subst (λ (x : List ℕ). Kept tab.rows (table_end tab) w x) (sym f.same) (kept_same tab.rows (table_end tab) w)
+met-kept tab w w' u v n from (Some m) (inl o) = subst (λ (x : List ℕ). Kept tab.rows (table_end tab) w x) (sym o.same) (kept_same tab.rows (table_end tab) w)
+met-kept tab w w' u v n from (Some m) (inr o) = o.added.kept
 
 module _ (a : ℕ) (tab : SetTable) (w w' u v : List ℕ) (n i l : ℕ) (hi : i < n) (hl : l < a) (ha : a ≤ 64) (t : Table a tab w n) where
-  pub met-grows : (r : Grown) → Met tab w w' n u v (i * 64 + l) r → Grows a tab w' n r
-  met-grows TooMany f = tt
-  met-grows (Total m) (inl o) =
+  pub met-grows : (r : Option ℕ) → Met tab w w' n u v (i * 64 + l) r → Grows a tab w' n r
+  met-grows None f = tt
+  met-grows (Some m) (inl o) =
       (omega (arith, o.many), subst (λ (k : ℕ). Table a tab w' k) (sym o.many) (subst (λ (x : List ℕ). Table a tab x n) (sym o.same) t))
-  met-grows (Total m) (inr o) =
+  met-grows (Some m) (inr o) =
       (omega (arith, o.many), subst (λ (k : ℕ). Table a tab w' k) (sym o.many) (record { few = omega (arith, o.room); tree = λ p h q. go p h q (ℕ_discrete p n); chain = o.added.chain }))
     where
       go : (p : ℕ) → 0 < p → p < n + 1 → Dec (p ≡ n) → (parent_of tab w' p < p) × (letter_of tab w' p < a)
@@ -46,7 +45,7 @@ module _ (a : ℕ) (tab : SetTable) (w w' u v : List ℕ) (n i l : ℕ) (hi : i 
 
 -- once a letter is met by neither side, the row of two empty sets is known
 pub dead_more : (tab : SetTable) (w w' u v : List ℕ) (n from m : ℕ) (dead none : Bool) → (T dead → EmptyRow tab w n) → (T none → (u ≡ 0 ∷ 0 ∷ 0 ∷ 0 ∷ []) × (v ≡ 0 ∷ 0 ∷ 0 ∷ 0 ∷ []))
-    → Met tab w w' n u v from (Total m) → T (dead || none) → EmptyRow tab w' m
+    → Met tab w w' n u v from (Some m) → T (dead || none) → EmptyRow tab w' m
 dead_more tab w w' u v n from m true none d f (inl o) x =
     let e = d tt in
     let l = e.low in
@@ -66,24 +65,24 @@ dead_more tab w w' u v n from m false false d f o x = absurd x
 
 -- ---- what the rows stand for, whatever that is: `Held w n xs` says that the first n are xs
 -- x is one of these now, or they are more than 512
-abbrev pub Joined : {X : Type 0} (same : X → X → Bool) (Held : List ℕ → ℕ → List X → Type 0) (w : List ℕ) (xs : List X) (x : X) → Grown → Type 0
-Joined same Held w xs x TooMany = 512 < length (add same xs x)
-Joined same Held w xs x (Total k) = Held w k (add same xs x)
+abbrev pub Joined : {X : Type 0} (same : X → X → Bool) (Held : List ℕ → ℕ → List X → Type 0) (w : List ℕ) (xs : List X) (x : X) → Option ℕ → Type 0
+Joined same Held w xs x None = 512 < length (add same xs x)
+Joined same Held w xs x (Some k) = Held w k (add same xs x)
 
 module _ {X : Type 0} (same : X → X → Bool) (Held : List ℕ → ℕ → List X → Type 0) {tab : SetTable} {w w' u v : List ℕ} {n from : ℕ} {xs : List X} (x : X) (h : Held w n xs) (many : length xs ≡ n)
     (lacks-none : Lacking tab w n u v → ¬ T (has same x xs)) (has-old : (place : ℕ) → place < n → RowAt tab w u v place → T (has same x xs))
     (more : Added tab w w' n u v from → Held w' (n + 1) (xs ++ x ∷ [])) where
   -- THE LAW. Meeting the row of u and v, which stands for x, is adding x
-  pub met-joins : (r : Grown) → Met tab w w' n u v from r → Joined same Held w' xs x r
-  met-joins TooMany m = ⊎_elim
+  pub met-joins : (r : Option ℕ) → Met tab w w' n u v from r → Joined same Held w' xs x r
+  met-joins None m = ⊎_elim
       (λ c. absurd (lacks-none m.lacks c.0))
       (λ c. omega (arith, ap length c.1, length-append xs (x ∷ []), many, m.many))
       (add-cases same xs x)
-  met-joins (Total k) (inl o) = ⊎_elim
+  met-joins (Some k) (inl o) = ⊎_elim
       (λ c. rw (c.1, o.many, o.same) h)
       (λ c. absurd (c.0 (has-old o.place o.low o.is)))
       (add-cases same xs x)
-  met-joins (Total k) (inr o) = ⊎_elim
+  met-joins (Some k) (inr o) = ⊎_elim
       (λ c. absurd (lacks-none o.lacks c.0))
       (λ c. rw (c.1, o.many) (more o.added))
       (add-cases same xs x)
@@ -156,10 +155,10 @@ module _ (tab : SetTable) (s t : Side) (w : List ℕ) (n : ℕ) (u v : List ℕ)
             let k : j ≡ n = omega (arith, get_elem?-lt more j g, length-append es (x ∷ []), h.many, b.0) in
             subst (λ (j : ℕ). Row tab s t w' more j f) (sym k) (subst (λ (f : Entry Pair). Row tab s t w' more n f) (sym b.1) new)
 
-    joins : (r : Grown) → Met tab w w' n u v (i * 64 + l) r → Joined alike (Holds tab s t) w' es x r
+    joins : (r : Option ℕ) → Met tab w w' n u v (i * 64 + l) r → Joined alike (Holds tab s t) w' es x r
     joins = met-joins alike (Holds tab s t) x h h.many lacks-none has-old holds_more
 
     -- THE LAW. Meeting the row is adding its entry
-    pub met : (r : Grown) → Met tab w w' n u v (i * 64 + l) r → Outcome 512 tab s t w' (add alike es x) r
-    met TooMany m = joins TooMany m
-    met (Total k) m = joins (Total k) m
+    pub met : (r : Option ℕ) → Met tab w w' n u v (i * 64 + l) r → Outcome 512 tab s t w' (add alike es x) r
+    met None m = joins None m
+    met (Some k) m = joins (Some k) m

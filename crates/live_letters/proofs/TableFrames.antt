@@ -1,12 +1,13 @@
 -- TableFrames: what is written beside a table leaves its entries as they are, and what is written into it leaves the sets of the letters, which are
 -- those behind them.
+use Rattle.std.proofs.Common.{Option}
 use mathlib.Core.Path.{◌∙◌, ◌≡◌, ap, ap₂, subst, sym}
 use mathlib.Core.Logic.{inl, inr, ⊎_elim}
 use mathlib.Core.Bool.{Bool, cond}
 use mathlib.Core.List.{List, [], ◌++◌, ◌∷◌}
-use Prim.Native.Nat.{◌%◌, ◌/◌, ◌<◌, ◌≤◌, ℕ}
+use Prim.Native.Nat.{◌%◌, ◌+◌, ◌-◌, ◌/◌, ◌<◌, ◌≤◌, suc, zero, ℕ}
 use native.Mathlib.Omega.{arith}
-use lib.ListN.{get_elem?}
+use lib.ListN.{get_elem?, get_or, length}
 use Rattle.automata.specs.Live.{by_letter}
 use Rattle.automata.specs.Pairs.{Pair}
 use Rattle.automata.specs.Search.{Entry}
@@ -19,10 +20,9 @@ use Rattle.table_sets.specs.Stepping.{set_of}
 use Rattle.word_layout.specs.Layout.{Tabled, table_end}
 use Rattle.word_layout.specs.declared.SetTable.{SetTable}
 use Rattle.live_table.specs.Entries.{Child, Holds, Side}
-use Rattle.live_table.specs.SetRows.{Met, Storable}
-use Rattle.live_table.specs.declared.Grown.{Grown}
+use Rattle.live_table.specs.SetRows.{Met}
 use Rattle.live_table.proofs.Laws.{Outside, left-kept, parent-kept, right_kept, rows-kept}
-use Rattle.live_letters.specs.Meeting.{Behind, LetterRoom, Table}
+use Rattle.live_letters.specs.Meeting.{Behind, LetterRoom, Table, left_set, right_set}
 
 -- ---- the sets of the letters
 pub set_same : (w w' : List ℕ) (acc met l : ℕ) → row w' acc l ≡ row w acc l → set_of w' acc met l ≡ set_of w acc met l
@@ -39,30 +39,35 @@ step-behind s S l x {count} {u} e eu ev wv f =
     let g = subst (λ (k : ℕ). ε_closed_set k s.arcs u → (view k x ≡ by_letter k s.arcs (view k u) l) × ε_closed_set k s.arcs x) (sym e) f (subst (λ (y : List ℕ). ε_closed_set s.size s.arcs y) (sym eu) wv) in
     (g.0 ∙ ap (λ (T : List Bool). by_letter s.size s.arcs T l) (ap (view s.size) eu ∙ ev), g.1)
 
-module _ {tab : SetTable} {w : List ℕ} {acc₁ acc₂ met₁ met₂ : ℕ} (room : LetterRoom tab w acc₁ acc₂ met₁ met₂) where
-  -- a row can hold the two sets of a letter
-  pub storable : (l : ℕ) → Storable tab (set_of w acc₁ met₁ l) (set_of w acc₂ met₂ l)
-  storable l e = let o = room.one e in ap₂ (λ (acc met : ℕ). set_of w acc met l) o.0 o.1
-
+module _ {tab : SetTable} {w w₁ : List ℕ} {acc : List ℕ} (room : LetterRoom tab w acc) (k : Kept tab.rows (table_end tab) w w₁) where
   -- the table is written: the sets behind it stay
-  module _ {w₁ : List ℕ} (k : Kept tab.rows (table_end tab) w w₁) where
-    pub room-kept : LetterRoom tab w₁ acc₁ acc₂ met₁ met₂
-    room-kept = record {
-      behind₁ = room.behind₁;
-      behind₂ = room.behind₂;
-      long₁ = omega (arith, k.long, room.long₁);
-      long₂ = omega (arith, k.long, room.long₂);
-      one = room.one;
-    }
+  pub room-kept : LetterRoom tab w₁ acc
+  room-kept = record { behind = room.behind; long = λ j h. omega (arith, k.long, room.long j h) }
 
-    set-above : (acc met l : ℕ) → table_end tab ≤ acc → set_of w₁ acc met l ≡ set_of w acc met l
-    set-above acc met l h = set_same w w₁ acc met l (row-above acc l k (omega arith))
+  set-above : (j met l : ℕ) → j < length acc → set_of w₁ (get_or acc j 0) met l ≡ set_of w (get_or acc j 0) met l
+  set-above j met l h = let b = room.behind j h in set_same w w₁ (get_or acc j 0) met l (row-above (get_or acc j 0) l k (omega arith))
 
-    pub met-as_left : (w' : List ℕ) (n from l : ℕ) (r : Grown) → Met tab w₁ w' n (set_of w₁ acc₁ met₁ l) (set_of w₁ acc₂ met₂ l) from r
-        → Met tab w₁ w' n (set_of w acc₁ met₁ l) (set_of w acc₂ met₂ l) from r
-    met-as_left w' n from l r m =
-        subst (λ (v : List ℕ). Met tab w₁ w' n (set_of w acc₁ met₁ l) v from r) (set-above acc₂ met₂ l room.behind₂)
-        (subst (λ (u : List ℕ). Met tab w₁ w' n u (set_of w₁ acc₂ met₂ l) from r) (set-above acc₁ met₁ l room.behind₁) m)
+  pub met-as_left : (met : List ℕ) (w' : List ℕ) (n from l : ℕ) (r : Option ℕ) → 0 < length acc → Met tab w₁ w' n (left_set w₁ acc met l) (right_set w₁ acc met l) from r
+      → Met tab w₁ w' n (left_set w acc met l) (right_set w acc met l) from r
+  met-as_left met w' n from l r some m =
+      subst (λ (v : List ℕ). Met tab w₁ w' n (left_set w acc met l) v from r) (set-above (length acc - 1) (get_or met (length met - 1) 0) l (omega arith))
+      (subst (λ (u : List ℕ). Met tab w₁ w' n u (right_set w₁ acc met l) from r) (set-above 0 (get_or met 0 0) l some) m)
+
+-- the room of one side, and of two
+pub one-room : {tab : SetTable} {w : List ℕ} {acc : ℕ} → table_end tab ≤ acc → acc + 256 ≤ length w → LetterRoom tab w (acc ∷ [])
+one-room {tab} {w} {acc} behind long = record { behind = λ j h. (at j h).0; long = λ j h. (at j h).1 }
+  where
+    at : (j : ℕ) → j < 1 → (table_end tab ≤ get_or (acc ∷ []) j 0) × (get_or (acc ∷ []) j 0 + 256 ≤ length w)
+    at zero h = (behind, long)
+    at (suc j) h = absurd (omega arith)
+
+pub two-room : {tab : SetTable} {w : List ℕ} {acc₁ acc₂ : ℕ} → table_end tab ≤ acc₁ → acc₁ + 256 ≤ length w → table_end tab ≤ acc₂ → acc₂ + 256 ≤ length w → LetterRoom tab w (acc₁ ∷ acc₂ ∷ [])
+two-room {tab} {w} {acc₁} {acc₂} behind₁ long₁ behind₂ long₂ = record { behind = λ j h. (at j h).0; long = λ j h. (at j h).1 }
+  where
+    at : (j : ℕ) → j < 2 → (table_end tab ≤ get_or (acc₁ ∷ acc₂ ∷ []) j 0) × (get_or (acc₁ ∷ acc₂ ∷ []) j 0 + 256 ≤ length w)
+    at zero h = (behind₁, long₁)
+    at (suc zero) h = (behind₂, long₂)
+    at (suc (suc j)) h = absurd (omega arith)
 
 -- ---- the table
 module _ {tab : SetTable} {c b : ℕ} {w w' : List ℕ} (d : Tabled w tab) (k : Kept c b w w') (o : Outside tab c b) where

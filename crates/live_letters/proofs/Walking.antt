@@ -1,10 +1,11 @@
 -- Walking: every row in number order. Once i of them are expanded the table holds the entries of i turns of the exploration. Said once for
 -- every search: `Known` is what the words that a search keeps tell of the sides, and the search writes between lo and hi.
+use Rattle.std.proofs.Common.{Option, Some, None}
 use mathlib.Core.Path.{◌∙◌, ◌≡◌, ap, refl, subst, sym}
 use mathlib.Core.Logic.{inl}
 use mathlib.Core.Bool.{Bool}
 use mathlib.Core.List.{List, [], ◌∷◌}
-use mathlib.Core.Option.{Option, some-injective, some}
+use mathlib.Core.Option.{some-injective, some}
 use Prim.Native.Nat.{◌+◌, ◌-◌, ◌<◌, ◌≤◌, suc, zero, ℕ}
 use native.Mathlib.Numerals.{add-one}
 use native.Mathlib.Omega.{arith}
@@ -19,12 +20,10 @@ use Rattle.word_sets.specs.Sets.{ε_closed_set, view}
 use Rattle.word_layout.specs.declared.SetTable.{SetTable}
 use Rattle.live_table.specs.Entries.{Holds, Row, Side, alike, along}
 use Rattle.live_table.specs.SetRows.{Added}
-use Rattle.live_table.specs.declared.Grown.{Grown}
-use Rattle.live_table.specs.declared.Grown.TheVariants.{TooMany, Total}
 use Rattle.live_letters.specs.Meeting.{Grows, Outcome, Table}
 
 -- what one expansion, of row i, tells
-abbrev pub Expanded : (Known : Side → Side → Type 0) (tab : SetTable) (a i : ℕ) (w w' : List ℕ) (n : ℕ) → Grown → Type 0
+abbrev pub Expanded : (Known : Side → Side → Type 0) (tab : SetTable) (a i : ℕ) (w w' : List ℕ) (n : ℕ) → Option ℕ → Type 0
 Expanded Known tab a i w w' n r =
     (s t : Side) (es : List (Entry Pair)) (e : Entry Pair) → Known s t → Holds tab s t w n es → get_elem? es i ≡ some e
     → Outcome 512 tab s t w' (add_all alike es (next_entries (along s t) a e)) r
@@ -45,10 +44,10 @@ module _ (tab : SetTable) (a : ℕ) (s t : Side) (q : Pair) where
   next : (i : ℕ) (e : Entry Pair) → get_elem? (all i) i ≡ some e → add_all alike (all i) (next_entries (along s t) a e) ≡ all (i + 1)
   unfolding entries known walk
   next i e p =
-      ap (λ (o : Option (Entry Pair)). add_all alike (all i) (targets (next_entries (along s t) a) o)) (sym p)
+      ap (λ o. add_all alike (all i) (targets (next_entries (along s t) a) o)) (sym p)
       ∙ ap (λ (k : ℕ). all k) (sym (add-one i))
 
-  walk_more : {Known : Side → Side → Type 0} (w₀ w w' : List ℕ) (n i : ℕ) (r : Grown) → i < n → Walk Known tab a w₀ w n i → Expanded Known tab a i w w' n r
+  walk_more : {Known : Side → Side → Type 0} (w₀ w w' : List ℕ) (n i : ℕ) (r : Option ℕ) → i < n → Walk Known tab a w₀ w n i → Expanded Known tab a i w w' n r
       → Known s t → Holds tab s t w₀ 1 (origin q ∷ []) → Outcome 512 tab s t w' (all (i + 1)) r
   walk_more w₀ w w' n i r l g f b h =
       let m = g s t q b h in
@@ -82,23 +81,23 @@ pub walked_start : (Known : Side → Side → Type 0) (tab : SetTable) (lo hi a 
 walked_start Known tab lo hi a w t =
     record { few = omega arith; kept = kept_same lo hi w; some_row = omega arith; table = t; walk = walk_start Known tab a w }
 
-module _ {Known : Side → Side → Type 0} {tab : SetTable} {lo hi a : ℕ} {w₀ w : List ℕ} {n i : ℕ} (w' : List ℕ) (r : Grown) (h : i < n)
+module _ {Known : Side → Side → Type 0} {tab : SetTable} {lo hi a : ℕ} {w₀ w : List ℕ} {n i : ℕ} (w' : List ℕ) (r : Option ℕ) (h : i < n)
     (k : Walked Known tab lo hi a w₀ w n i) (kept : Kept lo hi w w') (grows : Grows a tab w' n r) (x : Expanded Known tab a i w w' n r) where
-  pub walked_more : (m : ℕ) → r ≡ Total m → Walked Known tab lo hi a w₀ w' m (i + 1)
+  pub walked_more : (m : ℕ) → r ≡ Some m → Walked Known tab lo hi a w₀ w' m (i + 1)
   walked_more m e =
-      let g : Grows a tab w' n (Total m) = subst (λ (r : Grown). Grows a tab w' n r) e grows in
+      let g : Grows a tab w' n (Some m) = subst (λ (r : Option ℕ). Grows a tab w' n r) e grows in
       record {
         few = omega (arith, g.0);
         kept = kept_then k.kept kept;
         some_row = omega (arith, g.0);
         table = g.1;
-        walk = λ s t q b o. walk_more tab a s t q w₀ w w' n i (Total m) h k.walk (subst (λ (r : Grown). Expanded Known tab a i w w' n r) e x) b o;
+        walk = λ s t q b o. walk_more tab a s t q w₀ w w' n i (Some m) h k.walk (subst (λ (r : Option ℕ). Expanded Known tab a i w w' n r) e x) b o;
       }
 
-  pub Walked-over : r ≡ TooMany → (s t : Side) (q : Pair) → Known s t → Holds tab s t w₀ 1 (origin q ∷ []) → 512 < length (entries same_pair (along s t) a q 512)
+  pub Walked-over : r ≡ None → (s t : Side) (q : Pair) → Known s t → Holds tab s t w₀ 1 (origin q ∷ []) → 512 < length (entries same_pair (along s t) a q 512)
   Walked-over e s t q b o =
       walk-over tab a s t q i 512 (omega (arith, k.table.few))
-      (walk_more tab a s t q w₀ w w' n i TooMany h k.walk (subst (λ (r : Grown). Expanded Known tab a i w w' n r) e x) b o)
+      (walk_more tab a s t q w₀ w w' n i None h k.walk (subst (λ (r : Option ℕ). Expanded Known tab a i w w' n r) e x) b o)
 
 -- ---- the first row, added to an empty table
 pub table-start : {tab : SetTable} (a : ℕ) {w w' u v : List ℕ} {from : ℕ} → Added tab w w' 0 u v from → Table a tab w' 1

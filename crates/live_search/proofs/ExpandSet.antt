@@ -1,5 +1,5 @@
--- ExpandSet: a step from the set of a row leaves, for each letter, the set behind it, which is both sets of the pair behind that letter. Met for
--- all letters in their order, these are the entries that one letter more leads to.
+-- ExpandSet: a step from the set of a row leaves, for each letter, the set behind it, which is both sets of the pair behind that letter.
+use Rattle.std.proofs.Common.{Option}
 use mathlib.Core.Path.{◌∙◌, ◌≡◌, ap, subst, sym}
 use mathlib.Core.List.{List, map}
 use mathlib.Core.Option.{some}
@@ -19,11 +19,9 @@ use Rattle.word_layout.specs.declared.SetTable.{SetTable}
 use Rattle.table_live.specs.Steps.{Outgoing}
 use Rattle.live_table.specs.Entries.{Holds, Side, alike, along, on_entry}
 use Rattle.live_table.specs.SetRows.{left_row}
-use Rattle.live_table.specs.declared.Grown.{Grown}
 use Rattle.live_letters.specs.Meeting.{Behind, Grows, Outcome, Table}
 use Rattle.live_letters.proofs.Laws.{step-behind}
-use Rattle.live_sets.specs.MeetingAll.{MetAll}
-use Rattle.live_sets.proofs.Laws.{MetAll-entries, MetAll-table, same_row}
+use Rattle.live_table.proofs.Laws.{same_row}
 use Rattle.live_search.specs.Exploring.{Twins}
 
 -- what a step from the set u, of the automaton of the block, tells of the sets that it leaves for each letter
@@ -42,20 +40,3 @@ module _ {file : List ℕ} {c : Counts} {w : List ℕ} {block : Block} {tab : Se
         step-behind x e.state.left l (sets l) b.size eu r.left r.settled₁ (λ z. f x.arcs b.told z l hl),
         step-behind y e.state.right l (sets l) (ap (λ (z : Side). z.size) b.twin ∙ b.size) (eu ∙ sym (same_row tab one w i)) r.right r.settled₂ (λ z. f y.arcs told z l hl),
       )
-
--- all letters are met, in their order
-module _ {a : ℕ} (ha : a ≤ 64) (tab : SetTable) (sets : ℕ → List ℕ) (i : ℕ) (w : List ℕ) (n : ℕ) (w' : List ℕ) (r : Grown) (m : MetAll tab sets i (count_from 0 (a - 0)) w n w' r) where
-  below : Each (λ l. l < a) (count_from 0 (a - 0))
-  below = mem_each (count_from 0 (a - 0)) (λ l k. omega (arith, (count_from-iff 0 (a - 0) l).0 k))
-
-  pub all-met : i < n → Table a tab w n
-      → Grows a tab w' n r × ((x y : Side) (es : List (Entry Pair)) (e : Entry Pair) → ((l : ℕ) → l < a → Behind x e.state.left l (sets l) × Behind y e.state.right l (sets l))
-      → Holds tab x y w n es → get_elem? es i ≡ some e → Outcome 512 tab x y w' (add_all alike es (next_entries (along x y) a e)) r)
-  unfolding next_entries
-  all-met hi t = (
-    MetAll-table _ _ _ _ _ _ _ _ ha hi below t m,
-    λ x y es e b h p.
-        let k : a - 0 ≡ a = omega arith in
-        subst (λ (k : ℕ). Outcome 512 tab x y w' (add_all alike es (map (on_entry x y e) (count_from 0 k))) r) k
-        (MetAll-entries _ _ _ _ _ _ _ _ x y es e ha below b h p m),
-  )

@@ -1,4 +1,5 @@
 -- MetSets: a set that is met in a table with one set to a row joins the list of the sets that stand there, just if that list lacks it.
+use Rattle.std.proofs.Common.{Option, Some, None}
 use mathlib.Core.Path.{◌∙◌, ◌≡◌, ap, subst, sym}
 use mathlib.Core.Logic.{◌⊎◌, inl, inr}
 use mathlib.Core.Bool.{Bool}
@@ -16,11 +17,9 @@ use Rattle.automata.proofs.Laws.{add_all-length, at_mem, get_elem?-lt, get_elem?
 use Rattle.word_sets.specs.Sets.{in_set, view, ε_closed_set}
 use Rattle.word_layout.specs.declared.SetTable.{SetTable}
 use Rattle.live_table.specs.SetRows.{Added, Lacking, Met, RowAt, left_row}
-use Rattle.live_table.specs.declared.Grown.{Grown}
-use Rattle.live_table.specs.declared.Grown.TheVariants.{TooMany, Total}
-use Rattle.live_letters.proofs.Laws.{Joined, met-joins, same-members}
-use Rattle.live_sets.specs.MeetingAll.{MetAll}
-use Rattle.live_sets.proofs.Laws.{met_all, same_row}
+use Rattle.live_letters.proofs.Laws.{met_all, Joined, met-joins, same-members}
+use Rattle.live_letters.specs.MeetingAll.{MetAll}
+use Rattle.live_table.proofs.Laws.{same_row}
 use Rattle.live_search.specs.Exploring.{Sets, SetsOutcome}
 
 module _ (count : ℕ) (arcs : List PlainArc) (tab : SetTable) (one : tab.sets ≡ 1) where
@@ -56,20 +55,20 @@ module _ (count : ℕ) (arcs : List PlainArc) (tab : SetTable) (one : tab.sets �
               let k : j ≡ n = omega (arith, get_elem?-lt more j g, length-append known (S ∷ []), h.many, b.0) in
               subst (λ (v : List ℕ). Is v R) (sym (ap (left_row tab w') k ∙ d.new.0)) (p.0 ∙ sym b.1, p.1)
 
-      joins : (r : Grown) → Met tab w w' n u u from r → Joined same_set (Sets count arcs tab) w' known S r
+      joins : (r : Option ℕ) → Met tab w w' n u u from r → Joined same_set (Sets count arcs tab) w' known S r
       joins = met-joins same_set (Sets count arcs tab) S h h.many lacks-none has-old sets_more
 
       -- meeting the set is adding it
-      set-met : (r : Grown) → Met tab w w' n u u from r → SetsOutcome 512 count arcs tab w' (add same_set known S) r
-      set-met TooMany m = joins TooMany m
-      set-met (Total k) m = joins (Total k) m
+      set-met : (r : Option ℕ) → Met tab w w' n u u from r → SetsOutcome 512 count arcs tab w' (add same_set known S) r
+      set-met None m = joins None m
+      set-met (Some k) m = joins (Some k) m
 
 -- THE LAW. The sets of the letters that are met join the list, in their order
-pub MetAll-sets : {count : ℕ} {arcs : List PlainArc} {t : SetTable} {w : List ℕ} {n : ℕ} (sets : ℕ → List ℕ) (i : ℕ) (letters w' : List ℕ) (r : Grown) (δ : ℕ → List Bool) (known : List (List Bool))
-    → t.sets ≡ 1 → Each (λ l. (view count (sets l) ≡ δ l) × ε_closed_set count arcs (sets l)) letters → Sets count arcs t w n known → MetAll t sets i letters w n w' r
+pub MetAll-sets : {count : ℕ} {arcs : List PlainArc} {t : SetTable} {w : List ℕ} {n : ℕ} (sets : ℕ → List ℕ) (i : ℕ) (letters w' : List ℕ) (r : Option ℕ) (δ : ℕ → List Bool) (known : List (List Bool))
+    → t.sets ≡ 1 → Each (λ l. (view count (sets l) ≡ δ l) × ε_closed_set count arcs (sets l)) letters → Sets count arcs t w n known → MetAll t sets sets i letters w n w' r
     → SetsOutcome 512 count arcs t w' (add_all same_set known (map δ letters)) r
 unfolding add_all
 MetAll-sets {count} {arcs} {t} {w} {n} sets i letters w' r δ known one each h m =
-    met_all same_set δ t sets i (λ S v r. SetsOutcome 512 count arcs t v S r) (λ l. (view count (sets l) ≡ δ l) × ε_closed_set count arcs (sets l))
+    met_all same_set δ t sets sets i (λ S v r. SetsOutcome 512 count arcs t v S r) (λ l. (view count (sets l) ≡ δ l) × ε_closed_set count arcs (sets l))
     (λ S l v v' k r p h x. set-met count arcs t one v k (sets l) S (δ l) h p v' (i * 64 + l) r x) (λ S l v o. omega (arith, o, add_all-length same_set S (δ l ∷ [])))
     letters w n w' r known each h m

@@ -1,5 +1,6 @@
 -- TwinRows: a table that holds the pairs of an automaton and itself, from a set beside itself on, holds its live sets, in the order in which
 -- they are met.
+use Rattle.std.proofs.Common.{Option, Some, None}
 use mathlib.Core.Path.{◌∙◌, ◌≡◌, ap, refl, sym}
 use mathlib.Core.Bool.{Bool}
 use mathlib.Core.List.{List, map}
@@ -15,8 +16,6 @@ use Rattle.automata.specs.Search.{Entry, entries, met}
 use Rattle.automata.proofs.Laws.{at_map, get_elem?-lt, get_elem?-some, Twins-met}
 use Rattle.word_layout.specs.declared.SetTable.{SetTable}
 use Rattle.live_table.specs.Entries.{Holds, Side, along}
-use Rattle.live_table.specs.declared.Grown.{Grown}
-use Rattle.live_table.specs.declared.Grown.TheVariants.{TooMany, Total}
 use Rattle.live_letters.specs.Meeting.{Outcome}
 use Rattle.live_search.specs.Exploring.{Sets, SetsOutcome}
 
@@ -52,6 +51,6 @@ module _ (count : ℕ) (arcs : List PlainArc) (a : ℕ) (S : List Bool) (P : ℕ
   }
 
   -- THE LAW. What is said of the pairs is said of the sets
-  pub sets-outcome : (tab : SetTable) (w : List ℕ) (r : Grown) → Outcome P tab side side w pairs r → SetsOutcome P count arcs tab w sets r
-  sets-outcome tab w TooMany o = omega (arith, same-many)
-  sets-outcome tab w (Total n) o = held o
+  pub sets-outcome : (tab : SetTable) (w : List ℕ) (r : Option ℕ) → Outcome P tab side side w pairs r → SetsOutcome P count arcs tab w sets r
+  sets-outcome tab w None o = omega (arith, same-many)
+  sets-outcome tab w (Some n) o = held o

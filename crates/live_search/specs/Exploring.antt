@@ -1,6 +1,7 @@
 -- Exploring: what exploring the live sets of one automaton asks of the words, and what it leaves there. The automaton stands in a block
 -- (crate table_sets, specs/Stepping.antt; crate table_live, specs/Steps.antt); its live sets become the rows of a table with one set to a
 -- row (crate live_table).
+use Rattle.std.specs.Prelude.{Option, Some, None}
 use Rattle.std.specs.Prelude.{◌≡◌, Bool, List, ℕ, ◌<◌, ◌≤◌, length}
 use Rattle.std.proofs.Math.Option.{some}
 use Rattle.std.proofs.Math.ListN.{get_elem?}
@@ -13,8 +14,6 @@ use Rattle.word_layout.specs.declared.SetTable.{SetTable}
 use Rattle.table_live.specs.Steps.{Outgoing, Steppable}
 use Rattle.live_table.specs.Entries.{Side}
 use Rattle.live_table.specs.SetRows.{left_row}
-use Rattle.live_table.specs.declared.Grown.{Grown}
-use Rattle.live_table.specs.declared.Grown.TheVariants.{TooMany, Total}
 
 -- whatever the words stand for: a step can be taken, the table has one set to a row, and what is written, the table and behind it the sets of
 -- the letters, lies above the building's tables and the block
@@ -38,6 +37,6 @@ pub record Sets (count : ℕ) (arcs : List PlainArc) (tab : SetTable) (w : List 
   pub each : (i : ℕ) (S : List Bool) → get_elem? sets i ≡ some S → (view count (left_row tab w i) ≡ S) × ε_closed_set count arcs (left_row tab w i)
 
 -- the table holds the sets, or they are more than P
-abbrev pub SetsOutcome : (P count : ℕ) → List PlainArc → SetTable → List ℕ → List (List Bool) → Grown → Type 0
-SetsOutcome P count arcs tab w sets TooMany = P < length sets
-SetsOutcome P count arcs tab w sets (Total n) = Sets count arcs tab w n sets
+abbrev pub SetsOutcome : (P count : ℕ) → List PlainArc → SetTable → List ℕ → List (List Bool) → Option ℕ → Type 0
+SetsOutcome P count arcs tab w sets None = P < length sets
+SetsOutcome P count arcs tab w sets (Some n) = Sets count arcs tab w n sets

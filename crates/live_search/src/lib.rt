@@ -18,8 +18,8 @@ ghost use Rattle.table_live.specs.Steps.{Outgoing};
 ghost use Rattle.live_search.specs.Exploring.{Searchable, SetsOutcome, Twins};
 
 use format::Counts;
-use live_sets::meet_letters;
-use live_table::{Grown, add_row, left};
+use live_letters::meet_letters;
+use live_table::{add_row, left};
 use table_live::letters::step_letters;
 use word_layout::{Block, INDEX_HEADS, SetTable};
 
@@ -34,7 +34,7 @@ fn expand_set(
     acc: usize,
     i: usize,
     from: usize,
-) -> Grown
+) -> Option<usize>
     requires searchable { Searchable file.now c w.old block t acc }
     requires i_lt_from { (i < from) × Table c.letters t w.old from }
     ensures kept { Kept t.rows (acc + 256) w.old w.new }
@@ -44,7 +44,7 @@ fn expand_set(
 {
     let set = left(w, t, i);
     let met = step_letters(file, c, w, block, acc, set);
-    meet_letters(w, t, acc, 0, c.letters, i, from, met)
+    meet_letters(w, t, [acc], [met], 0, c.letters, i, from)
 }
 
 // All live sets, from the one that stands first.
@@ -56,7 +56,7 @@ fn explore_from(
     block: Block,
     t: SetTable,
     acc: usize,
-) -> Grown
+) -> Option<usize>
     requires searchable { Searchable file.now c w.old block t acc }
     requires table { Table c.letters t w.old 1 }
     ensures kept { Kept t.rows (acc + 256) w.old w.new }
@@ -66,18 +66,12 @@ fn explore_from(
 {
     let mut n: usize = 1;
     let mut i: usize = 0;
+    // kept: the number of sets grows while they are gone over, so no range says which are to come
     while i < n {
-        match expand_set(file, c, w, block, t, acc, i, n) {
-            Grown::TooMany => {
-                return Grown::TooMany;
-            }
-            Grown::Total(more) => {
-                n = more;
-            }
-        }
+        n = expand_set(file, c, w, block, t, acc, i, n)?;
         i += 1;
     }
-    Grown::Total(n)
+    Some(n)
 }
 
 // All live sets that words over the letters lead to from the set `start`, which no empty move leaves; each with the set and the letter by
@@ -91,7 +85,7 @@ pub fn explore_sets(
     t: SetTable,
     acc: usize,
     start: [u64; 4],
-) -> Grown
+) -> Option<usize>
     requires { Searchable file.now c w.old block t acc }
     ensures kept { Kept t.rows (acc + 256) w.old w.new }
     ensures grows { Grows c.letters t w.new 1 result }
@@ -99,6 +93,6 @@ pub fn explore_sets(
         → SetsOutcome 512 block.count arcs t w.new (met same_set (by_letter block.count arcs) c.letters (view block.count start) 512) result }
 {
     word_fields::fill(w, t.index + INDEX_HEADS, 128);
-    add_row(w, t, 0, start, start, 0);
+    add_row(w, t, 0, [start], 0);
     explore_from(file, c, w, block, t, acc)
 }

@@ -1,5 +1,5 @@
 -- RowFrames: words that are written beside a table leave its rows, their parents and their chains as they are.
-use mathlib.Core.Path.{◌≡◌, ap₂, sym}
+use mathlib.Core.Path.{◌≡◌, ap, ap₂, sym}
 use mathlib.Core.Logic.{◌⊎◌, ⊎_elim}
 use mathlib.Core.List.{List}
 use Prim.Native.Nat.{ℕ, ◌+◌, ◌-◌, ◌*◌, ◌/◌, ◌≤◌, ◌<◌}
@@ -43,3 +43,7 @@ module _ {w w' : List ℕ} {t : SetTable} {a b : ℕ} (d : Tabled w t) (k : Kept
   rows-kept few c =
       chain-kept (λ j l. ap₂ key_of (sym (left-kept j (omega arith))) (sym (right_kept j (omega arith))))
       (λ i l. word_kept (heads_at t + i / 4) (omega (arith, d.before)) (omega arith)) (λ j l. word_kept (nexts_at t + j / 4) (omega (arith, d.before)) (omega arith)) c
+
+-- where a row has one set, its right one is its left one
+pub same_row : (t : SetTable) → t.sets ≡ 1 → (w : List ℕ) (i : ℕ) → right_row t w i ≡ left_row t w i
+same_row t e w i = let z : t.sets * i + (t.sets - 1) ≡ t.sets * i = omega arith in ap (row w t.rows) z

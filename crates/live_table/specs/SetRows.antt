@@ -1,5 +1,6 @@
 -- SetRows: rows of live sets put into a table, and found again along the chains of their keys.
-use Rattle.std.specs.Prelude.{◌≡◌, ◌⊎◌, List, ℕ, ◌+◌, ◌-◌, ◌*◌, ◌/◌, ◌%◌, ◌^◌, ◌≤◌, ◌<◌, get_or}
+use Rattle.std.specs.Prelude.{Option, Some, None}
+use Rattle.std.specs.Prelude.{◌≡◌, ◌⊎◌, List, [], ℕ, ◌+◌, ◌-◌, ◌*◌, ◌/◌, ◌%◌, ◌^◌, ◌≤◌, ◌<◌, get_or, length}
 use Rattle.std.specs.Int.Bits.{bit_or, bit_xor}
 use Rattle.word_fields.specs.Frame.{Kept}
 use Rattle.word_fields.specs.Fields.{field}
@@ -8,8 +9,6 @@ use Rattle.word_sets.specs.Sets.{in_set}
 use Rattle.word_rows.specs.Rows.{row}
 use Rattle.word_layout.specs.Layout.{heads_at, nexts_at, parents_at, table_end}
 use Rattle.word_layout.specs.declared.SetTable.{SetTable}
-use Rattle.live_table.specs.declared.Grown.{Grown}
-use Rattle.live_table.specs.declared.Grown.TheVariants.{TooMany, Total}
 
 -- ---- the key of a row: any number below 509 that depends on the eight words alone would do
 
@@ -37,9 +36,16 @@ right_row t w i = row w t.rows (t.sets * i + (t.sets - 1))
 abbrev pub RowAt : SetTable → List ℕ → List ℕ → List ℕ → ℕ → Type 0
 RowAt t w u v i = (left_row t w i ≡ u) × (right_row t w i ≡ v)
 
--- a row can hold u and v: where it has one set, that is both
-abbrev pub Storable : SetTable → List ℕ → List ℕ → Type 0
-Storable t u v = t.sets ≡ 1 → u ≡ v
+-- of the sets of a row, one or two, the left one and the right one
+abbrev pub first_set : List (List ℕ) → List ℕ
+first_set sets = get_or sets 0 []
+
+abbrev pub last_set : List (List ℕ) → List ℕ
+last_set sets = get_or sets (length sets - 1) []
+
+-- row i holds these sets
+abbrev pub LineAt : SetTable → List ℕ → List (List ℕ) → ℕ → Type 0
+LineAt t w sets i = RowAt t w (first_set sets) (last_set sets) i
 
 -- the chains of the first n rows
 abbrev pub RowChain : SetTable → List ℕ → ℕ → Type 0
@@ -48,6 +54,11 @@ RowChain t w n = Chain (λ i. key_of (left_row t w i) (right_row t w i)) w (head
 -- none of the first n rows has the members of u and of v
 abbrev pub Lacking : SetTable → List ℕ → ℕ → List ℕ → List ℕ → Type 0
 Lacking t w n u v = (p : ℕ) → p < n → ((j : ℕ) → in_set (left_row t w p) j ≡ in_set u j) → ((j : ℕ) → in_set (right_row t w p) j ≡ in_set v j) → ⊥
+
+-- the row that holds u and v, if one of the first n does
+abbrev pub FoundRow : (t : SetTable) (w u v : List ℕ) (n : ℕ) → Option ℕ → Type 0
+FoundRow t w u v n None = (i : ℕ) → i < n → ¬ RowAt t w u v i
+FoundRow t w u v n (Some i) = (i < n) × RowAt t w u v i
 
 -- row n holds u and v, and `from` tells its parent and letter; the rows before it are as they were, and so is what stands beside the table
 pub record Added (t : SetTable) (w w' : List ℕ) (n : ℕ) (u v : List ℕ) (from : ℕ) : Type 0 where
@@ -82,6 +93,6 @@ pub record Full (t : SetTable) (w w' : List ℕ) (n : ℕ) (u v : List ℕ) : Ty
   pub lacks : Lacking t w n u v
 
 -- the words once they are met, by what is answered
-abbrev pub Met : (t : SetTable) (w w' : List ℕ) (n : ℕ) (u v : List ℕ) (from : ℕ) → Grown → Type 0
-Met t w w' n u v from TooMany = Full t w w' n u v
-Met t w w' n u v from (Total m) = Old t w w' n m u v ⊎ New t w w' n m u v from
+abbrev pub Met : (t : SetTable) (w w' : List ℕ) (n : ℕ) (u v : List ℕ) (from : ℕ) → Option ℕ → Type 0
+Met t w w' n u v from None = Full t w w' n u v
+Met t w w' n u v from (Some m) = Old t w w' n m u v ⊎ New t w w' n m u v from

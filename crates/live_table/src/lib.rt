@@ -4,22 +4,14 @@
 #![tactic(auto)]
 
 ghost use Rattle.std.specs.Prelude.{◌≡◌, ◌↔◌, ◌≤◌, ◌<◌, T};
-ghost use Rattle.word_fields.specs.Chains.{Found};
 ghost use Rattle.word_layout.specs.Layout.{Tabled};
-ghost use Rattle.live_table.specs.SetRows.{turn, key_of, left_row, right_row, Storable, RowChain, RowAt, Added, Met};
+ghost use Rattle.live_table.specs.SetRows.{turn, key_of, left_row, right_row, first_set, last_set, RowChain, LineAt, FoundRow, Added, Met};
 
 use word_fields::chains::push;
 use word_fields::{get16, put16};
 use word_layout::{INDEX_HEADS, INDEX_NEXTS, SetTable};
 use word_rows::{load, store};
 use word_sets::same;
-
-// How many rows there are now, or that there is no room for one more.
-#[derive(Clone, Copy)]
-pub enum Grown {
-    TooMany,
-    Total(usize),
-}
 
 // The left set of row i.
 // Cost: constant.
@@ -58,67 +50,87 @@ pub fn key_of(u: [u64; 4], v: [u64; 4]) -> usize
     (y % 509) as usize
 }
 
-// Does row i hold u and v?
+// Does row i hold these sets? Set by set, so that a row whose first one differs is left at once.
 // Cost: constant.
-fn is_row(w: &[u64], t: SetTable, i: usize, u: [u64; 4], v: [u64; 4]) -> bool
-    requires { (i < 512) × Tabled w.now t }
-    ensures { T result ↔ RowAt t w.now u v i }
+fn is_row<const SETS: usize>(w: &[u64], t: SetTable, i: usize, sets: [[u64; 4]; SETS]) -> bool
+    requires { (i < 512) × (Tabled w.now t × (t.sets ≡ SETS)) }
+    ensures { T result ↔ LineAt t w.now sets.entry i }
 {
-    if same(left(w, t, i), u) {
-        same(right(w, t, i), v)
-    } else {
-        false
+    for (k, set) in sets.iter().enumerate() {
+        if !same(load(w, t.rows, SETS * i + k), *set) {
+            return false;
+        }
     }
+    true
 }
 
-// The number of the row that holds u and v, among the first n, or n where there is none: along the chain of its key.
+// The number of the row that holds these sets, if one of the first n does: along the chain of its key.
 // Cost: as many steps as rows have its key; n at most.
-pub fn find_row(w: &[u64], t: SetTable, n: usize, u: [u64; 4], v: [u64; 4]) -> usize
-    requires { (n ≤ 512) × (Tabled w.now t × RowChain t w.now n) }
-    ensures { Found (RowAt t w.now u v) n result }
+pub fn find_row<const SETS: usize>(
+    w: &[u64],
+    t: SetTable,
+    n: usize,
+    sets: [[u64; 4]; SETS],
+) -> Option<usize>
+    requires { (n ≤ 512) × ((Tabled w.now t × (t.sets ≡ SETS)) × RowChain t w.now n) }
+    ensures { FoundRow t w.now (first_set sets.entry) (last_set sets.entry) n result }
 {
-    let mut g = get16(w, t.index + INDEX_HEADS, key_of(u, v));
+    let mut g = get16(w, t.index + INDEX_HEADS, key_of(sets[0], sets[SETS - 1]));
     while g < n {
-        if is_row(w, t, g, u, v) {
-            return g;
+        if is_row(w, t, g, sets) {
+            return Some(g);
         }
         g = get16(w, t.index + INDEX_NEXTS, g);
     }
-    n
+    None
 }
 
-// Row n comes to hold u and v; `from` is its parent times 64 plus its letter.
+// Row n comes to hold these sets; `from` is its parent times 64 plus its letter.
 // Cost: constant.
-pub fn add_row(w: &mut [u64], t: SetTable, n: usize, u: [u64; 4], v: [u64; 4], from: usize)
+pub fn add_row<const SETS: usize>(
+    w: &mut [u64],
+    t: SetTable,
+    n: usize,
+    sets: [[u64; 4]; SETS],
+    from: usize,
+)
     requires n_bound { (n < 512) × (from < 65536) }
-    requires tabled { Tabled w.old t × (RowChain t w.old n × Storable t u v) }
-    ensures { Added t w.old w.new n u v from }
+    requires sets { t.sets ≡ SETS }
+    requires tabled { Tabled w.old t × RowChain t w.old n }
+    ensures { Added t w.old w.new n (first_set sets.entry) (last_set sets.entry) from }
 {
-    store(w, t.rows, t.sets * n, u);
-    store(w, t.rows, t.sets * n + (t.sets - 1), v);
+    for (k, set) in sets.iter().enumerate() {
+        store(w, t.rows, SETS * n + k, *set);
+    }
     put16(w, t.index, n, from);
     push(
         w,
         t.index + INDEX_HEADS,
         t.index + INDEX_NEXTS,
-        key_of(u, v),
+        key_of(sets[0], sets[SETS - 1]),
         n,
     );
 }
 
-// A row of the n holds u and v, or the next one comes to.
+// A row of the n holds these sets, or the next one comes to. How many rows there are then, if there is room for it.
 // Cost: as many steps as rows have their key; n at most.
-pub fn meet(w: &mut [u64], t: SetTable, n: usize, u: [u64; 4], v: [u64; 4], from: usize) -> Grown
+pub fn meet<const SETS: usize>(
+    w: &mut [u64],
+    t: SetTable,
+    n: usize,
+    sets: [[u64; 4]; SETS],
+    from: usize,
+) -> Option<usize>
     requires n_bound { (n ≤ 512) × (from < 65536) }
-    requires tabled { Tabled w.old t × (RowChain t w.old n × Storable t u v) }
-    ensures { Met t w.old w.new n u v from result }
+    requires tabled { (Tabled w.old t × (t.sets ≡ SETS)) × RowChain t w.old n }
+    ensures { Met t w.old w.new n (first_set sets.entry) (last_set sets.entry) from result }
 {
-    if find_row(w, t, n, u, v) < n {
-        return Grown::Total(n);
+    if find_row(w, t, n, sets).is_some() {
+        return Some(n);
     }
     if n == 512 {
-        return Grown::TooMany;
+        return None;
     }
-    add_row(w, t, n, u, v, from);
-    Grown::Total(n + 1)
+    add_row(w, t, n, sets, from);
+    Some(n + 1)
 }

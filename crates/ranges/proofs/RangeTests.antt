@@ -1,37 +1,33 @@
--- RangeTests: whether bytes are ranges, at a place of the whole list: what one turn of the loop decides, and its end.
-use mathlib.Core.Path.{◌∙◌, ◌≡◌}
-use mathlib.Core.Bool.{false, true}
-use mathlib.Core.List.{List}
-use Prim.Native.Nat.{◌+◌, ◌-◌, ◌<◌, ◌≤◌, ℕ}
-use native.Mathlib.Omega.{arith}
+-- RangeTests: whether bytes are ranges: what one turn of the loop decides of those that are left, and its end.
+use Rattle.std.proofs.Common.{◌≡◌, ◌-◌, ◌<◌, ◌≤◌, true, not, List, [], ◌∷◌, ℕ, arith, drop, get_or, length, nat_eq, refl, take}
 use borrow.Author.Tests.{le-ltb, lt-ltb}
-use lib.ListN.{drop, drop_of_length-le, get_or, length}
+use Rattle.std.proofs.lemmas.List.{take_all}
 use Rattle.ranges_promise.specs.RangeAnswers.{bad_ranges}
-use Rattle.ranges_walk.proofs.Laws.{Bad-one, Bad-two}
 
-module _ (a : ℕ) (s : List ℕ) (i : ℕ) where
-  abbrev low : ℕ
-  low = get_or s i 0
+-- two bytes are left, and low is above high
+pub low-above : (a : ℕ) (s : List ℕ) → 2 ≤ length s → get_or s 1 0 < get_or s 0 0 → bad_ranges a s ≡ true
+unfolding bad_ranges
+low-above a [] h above = absurd (omega arith)
+low-above a (low ∷ []) h above = absurd (omega arith)
+low-above a (low ∷ high ∷ s) h above = rw (lt-ltb high low above)
 
-  abbrev high : ℕ
-  high = get_or s (i + 1) 0
+-- high is no letter
+pub no_letter : (a : ℕ) (s : List ℕ) → 2 ≤ length s → get_or s 0 0 ≤ get_or s 1 0 → a ≤ get_or s 1 0 → bad_ranges a s ≡ true
+unfolding bad_ranges
+no_letter a [] h below none = absurd (omega arith)
+no_letter a (low ∷ []) h below none = absurd (omega arith)
+no_letter a (low ∷ high ∷ s) h below none = rw (le-ltb high low below, le-ltb high a none)
 
-  -- two bytes are left
-  module _ (h : i + 1 < length s) where
-    pub low-above : high < low → bad_ranges a (drop i s) ≡ true
-    low-above above = Bad-two s i a h ∙ rw (lt-ltb high low above)
+-- they are a range
+pub range_passed : (a : ℕ) (s : List ℕ) → 2 ≤ length s → get_or s 0 0 ≤ get_or s 1 0 → get_or s 1 0 < a → bad_ranges a s ≡ bad_ranges a (take (length s - 2) (drop 2 s))
+unfolding bad_ranges
+range_passed a [] h below letter = absurd (omega arith)
+range_passed a (low ∷ []) h below letter = absurd (omega arith)
+range_passed a (low ∷ high ∷ s) h below letter = rw (le-ltb high low below, lt-ltb high a letter, take_all (length (low ∷ high ∷ s) - 2) s (omega arith))
 
-    pub no_letter : low ≤ high → a ≤ high → bad_ranges a (drop i s) ≡ true
-    no_letter below none = Bad-two s i a h ∙ rw (le-ltb high low below, le-ltb high a none)
-
-    pub Range-passed : low ≤ high → high < a → bad_ranges a (drop i s) ≡ bad_ranges a (drop (i + 2) s)
-    Range-passed below letter = Bad-two s i a h ∙ rw (le-ltb high low below, lt-ltb high a letter)
-
-  -- one is
-  pub left_over : length s - i ≡ 1 → bad_ranges a (drop i s) ≡ true
-  left_over h = Bad-one s i a (omega arith)
-
-  -- none is
-  pub all-passed : length s ≤ i → bad_ranges a (drop i s) ≡ false
-  unfolding bad_ranges
-  all-passed h = rw (drop_of_length-le s h)
+-- fewer are left
+pub passed_all : (a : ℕ) (s : List ℕ) → length s < 2 → nat_eq (length s) 0 ≡ not (bad_ranges a s)
+unfolding bad_ranges
+passed_all a [] h = refl
+passed_all a (low ∷ []) h = refl
+passed_all a (low ∷ high ∷ s) h = absurd (omega arith)

@@ -1,4 +1,5 @@
 -- WalkAnswers: the places of a word are walked from the live set of the empty word; what that answers is said of the automaton of the file.
+use Rattle.std.proofs.Common.{None, Ok, Option, Some}
 use mathlib.Core.Path.{◌∙◌, ◌≡◌, refl, subst, sym}
 use mathlib.Core.Bool.{Bool, not, true}
 use mathlib.Core.List.{List, [], ◌∷◌}
@@ -20,12 +21,11 @@ use Rattle.word_layout.specs.Layout.{before_table}
 use Rattle.word_layout.specs.declared.Block.{Block}
 use Rattle.table.specs.Standing.{Stands}
 use Rattle.table.proofs.Laws.{stands-many}
-use Rattle.live_table.specs.declared.Grown.{Grown}
-use Rattle.live_table.specs.declared.Grown.TheVariants.{TooMany, Total}
 use Rattle.live_search.specs.Exploring.{Sets}
 use Rattle.ranges_promise.specs.RangeAnswers.{filled_sets, judged, many_sets, ranges_of}
-use Rattle.ranges_promise.specs.declared.Ranged.{Ranged}
-use Rattle.ranges_promise.specs.declared.Ranged.TheVariants.{Refused}
+use Rattle.file_fields.specs.declared.Reason.TheVariants.{TooManyLiveSets}
+use Rattle.format.specs.Refusals.{refused}
+use Rattle.ranges_promise.specs.declared.Fillings.{Fillings}
 use Rattle.ranges_walk.specs.Walking.{SetsIn, Walked}
 use Rattle.ranges_walk.proofs.Laws.{start-sets}
 use Rattle.ranges.specs.Answers.{sets_answer}
@@ -56,23 +56,23 @@ module _ (file : List ℕ) where
       let g = subst (λ (m : ℕ). (view m start ≡ live m (plain_arcs x 256) []) × ε_closed_set m (plain_arcs x 256) start) (stands-many h) f in
       start-sets file start e (g.0 ∙ sym (empty-live x 256), g.1)
 
-  module _ (w' : List ℕ) (r : Grown) (places : List ℕ) (k : Walked file w' (live_set x 256 [] ∷ []) (ranges_of places) r) where
-    pub Walked-over : r ≡ TooMany → Refused 23 0 ≡ sets_answer 256 512 x places
+  module _ (w' : List ℕ) (r : Option ℕ) (places : List ℕ) (k : Walked file w' (live_set x 256 [] ∷ []) (ranges_of places) r) where
+    pub Walked-over : r ≡ None → refused TooManyLiveSets None ≡ sets_answer 256 512 x places
     Walked-over e =
         let many = subst (Walked file w' (live_set x 256 [] ∷ []) (ranges_of places)) e k in
         sets-beyond 256 512 x places (Bool-ext (many_sets 256 512 x places) true (λ t. tt) (λ t. subst T (sym (many-are 256 512 x places)) many))
 
-    module _ {n : ℕ} (e : r ≡ Total n) where
-      walked : Walked file w' (live_set x 256 [] ∷ []) (ranges_of places) (Total n)
+    module _ {n : ℕ} (e : r ≡ Some n) where
+      walked : Walked file w' (live_set x 256 [] ∷ []) (ranges_of places) (Some n)
       walked = subst (Walked file w' (live_set x 256 [] ∷ []) (ranges_of places)) e k
 
       pub Walked-few : n ≤ 512
       Walked-few = walked.1.0
 
       -- the word is judged by the live sets behind the last place
-      pub Walked-judged : {c : Counts} {w : List ℕ} {block : Block} (finals : List ℕ) {a : Ranged} → Stands file c w block → view block.count finals ≡ final_set x (configurations x 256)
+      pub Walked-judged : {c : Counts} {w : List ℕ} {block : Block} (finals : List ℕ) {a : Fillings} → Stands file c w block → view block.count finals ≡ final_set x (configurations x 256)
           → ((count : ℕ) (arcs : List PlainArc) (sets : List (List Bool)) → Sets count arcs before_table w' n sets → a ≡ judged (any (λ S. meets S (view count finals)) sets) (any (λ S. not (meets S (view count finals))) sets))
-          → a ≡ sets_answer 256 512 x places
+          → Ok a ≡ sets_answer 256 512 x places
       Walked-judged finals h final judges =
           let here = subst (λ (m : ℕ). view m finals ≡ final_set x (configurations x 256)) (stands-many h) final in
           let held = subst (SetsIn file before_table w' n) (sym (Filled-are 256 x places)) walked.1.1 in

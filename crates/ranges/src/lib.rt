@@ -1,11 +1,10 @@
-// ranges: a word of which each letter is known only to lie in a range: is every filling accepted, are some, or none? (document 02, change 7)
+// ranges: a word of which each letter is known only to lie in a range: is every filling accepted, are some, or none?
 #![tactic(auto)]
 
-ghost use Rattle.std.specs.Prelude.{◌≡◌, Bool, false, not, List, ℕ, ◌≤◌, length};
+ghost use Rattle.std.specs.Prelude.{◌≡◌, Bool, false, not, List, ℕ, ◌≤◌, Ok, length};
 ghost use Rattle.std.specs.Bool.{beq};
 ghost use Rattle.automata.specs.Lists.{any};
 ghost use Rattle.automata.specs.Live.{PlainArc, meets};
-ghost use Rattle.file_fields.specs.declared.Reading.TheVariants.{Valid};
 ghost use Rattle.format.specs.Decoding.{automaton_of};
 ghost use Rattle.format.specs.Reading.{reading_of};
 ghost use Rattle.ranges_promise.specs.RangeAnswers.{bad_ranges, judged, ranged_of};
@@ -15,13 +14,11 @@ ghost use Rattle.live_search.specs.Exploring.{Sets};
 ghost use Rattle.ranges_walk.specs.Walking.{Ready};
 ghost use Rattle.ranges.specs.Answers.{limits_answer, sets_answer};
 
-use format::Counts;
+use format::{Automaton, Counts, Reason, Refusal};
 use live_building::build_pruned;
-use live_table::Grown;
-pub use ranges_promise::Ranged;
+pub use ranges_promise::Fillings;
 use ranges_walk::walk_places;
 use table::finals::final_configurations;
-use table_explore::Explored;
 use table_list_steps::start_set;
 use word_layout::{BEFORE_ROWS, Block, ONLY_BLOCK};
 use word_rows::{load, store};
@@ -31,20 +28,17 @@ use word_rows::{load, store};
 fn are_ranges(a: usize, places: &[u8]) -> bool
     ensures { result ≡ not (bad_ranges a places.now) }
 {
-    let mut i: usize = 0;
-    while i < places.len() {
-        if places.len() - i == 1 {
+    let mut rest = places;
+    while let [low, high, behind @ ..] = rest {
+        if *high < *low {
             return false;
         }
-        if places[i + 1] < places[i] {
+        if a <= usize::from(*high) {
             return false;
         }
-        if a <= places[i + 1] as usize {
-            return false;
-        }
-        i += 2;
+        rest = behind;
     }
-    true
+    rest.is_empty()
 }
 
 // Is one of the n live sets behind the last place accepted, or where `accepted` is false, not accepted? It is accepted where it has a
@@ -54,36 +48,40 @@ fn some_set(w: &[u64], n: usize, finals: [u64; 4], accepted: bool) -> bool
     requires { (n ≤ 512) × (8192 ≤ length w.now) }
     ensures { (count : ℕ) (arcs : List PlainArc) (sets : List (List Bool)) → Sets count arcs before_table w.now n sets → result ≡ any (λ S. beq (meets S (view count finals)) accepted) sets }
 {
-    let mut i: usize = 0;
-    while i < n {
+    for i in 0..n {
         if word_sets::meets(load(w, BEFORE_ROWS, i), finals) == accepted {
             return true;
         }
-        i += 1;
     }
     false
 }
 
 // The answer, by the n live sets behind the last place.
 // Cost: two passes over the n rows.
-fn judge(w: &[u64], n: usize, finals: [u64; 4]) -> Ranged
+fn judge(w: &[u64], n: usize, finals: [u64; 4]) -> Fillings
     requires { (n ≤ 512) × (8192 ≤ length w.now) }
     ensures { (count : ℕ) (arcs : List PlainArc) (sets : List (List Bool)) → Sets count arcs before_table w.now n sets
         → result ≡ judged (any (λ S. meets S (view count finals)) sets) (any (λ S. not (meets S (view count finals))) sets) }
 {
     if !some_set(w, n, finals, true) {
-        return Ranged::Never;
+        return Fillings::Never;
     }
     if some_set(w, n, finals, false) {
-        return Ranged::Sometimes;
+        return Fillings::Sometimes;
     }
-    Ranged::Always
+    Fillings::Always
 }
 
 // The automaton of a valid file stands in its block, and the places are ranges of its letters. They are walked, and the live sets behind the
 // last one are judged. Refuses 23: more than 512 live sets behind one of them.
 // Cost: that of `walk_places` and of `judge`, and a look at each configuration.
-fn judge_places(file: &[u8], c: Counts, w: &mut [u64], block: Block, places: &[u8]) -> Ranged
+fn judge_places(
+    file: &[u8],
+    c: Counts,
+    w: &mut [u64],
+    block: Block,
+    places: &[u8],
+) -> Result<Fillings, Refusal>
     requires { Ready file.now c w.old block × (bad_ranges c.letters places.now ≡ false) }
     ensures same { length w.new ≡ length w.old }
     ensures answer { result ≡ sets_answer 256 512 (automaton_of file.now) places.now }
@@ -91,39 +89,30 @@ fn judge_places(file: &[u8], c: Counts, w: &mut [u64], block: Block, places: &[u
     let finals = final_configurations(file, c, w, block.count);
     let start = start_set(w, block);
     store(w, BEFORE_ROWS, 0, start);
-    let Grown::Total(n) = walk_places(file, c, w, block, places) else {
-        return Ranged::Refused {
-            number: 23,
-            automaton: 0,
-        };
+    let Some(n) = walk_places(file, c, w, block, places) else {
+        return Err(Reason::TooManyLiveSets.of_call());
     };
-    judge(w, n, finals)
+    Ok(judge(w, n, finals))
 }
 
 // The word of a valid file with the counts c. Refuses, in this order: 35, the bytes are no ranges of its letters; 21, more than 256
 // configurations; 23.
 // Cost: what building and `judge_places` take.
-fn judge_valid(file: &[u8], c: Counts, w: &mut [u64], places: &[u8]) -> Ranged
-    requires { (reading_of file.now ≡ Valid c) × (8192 ≤ length w.old) }
+fn judge_valid(file: &[u8], c: Counts, w: &mut [u64], places: &[u8]) -> Result<Fillings, Refusal>
+    requires { (reading_of file.now ≡ Ok c) × (8192 ≤ length w.old) }
     ensures same { length w.new ≡ length w.old }
     ensures answer { result ≡ limits_answer 256 512 (automaton_of file.now) places.now }
 {
     if !are_ranges(c.letters, places) {
-        return Ranged::Refused {
-            number: 35,
-            automaton: 0,
-        };
+        return Err(Reason::BadRanges.of_call());
     }
-    let Explored::Tables { count, plain } = build_pruned(file, c, w) else {
-        return Ranged::Refused {
-            number: 21,
-            automaton: 1,
-        };
+    let Some(sizes) = build_pruned(file, c, w) else {
+        return Err(Reason::TooManyConfigurations.of(Automaton::First));
     };
     let block = Block {
         base: ONLY_BLOCK,
-        count,
-        plain,
+        count: sizes.count,
+        plain: sizes.plain,
     };
     judge_places(file, c, w, block, places)
 }
@@ -138,22 +127,16 @@ fn judge_valid(file: &[u8], c: Counts, w: &mut [u64], places: &[u8]) -> Ranged
 // its configurations, q that of the places, n that of the live sets before each place, added up over the places, r the most letters of a range
 // and s what a step by all letters takes: the plain arcs of the live configurations, or where there are more than 2,048 the arcs and
 // operations that leave their states. Nothing is allocated.
-pub fn accepts_ranges(file: &[u8], places: &[u8], work: &mut [u64]) -> Ranged
+pub fn accepts_ranges(file: &[u8], places: &[u8], work: &mut [u64]) -> Result<Fillings, Refusal>
     ensures same { length work.new ≡ length work.old }
     ensures answer { result ≡ ranged_of file.now places.now (length work.old) }
 {
     if work.len() < 8192 {
-        return Ranged::Refused {
-            number: 24,
-            automaton: 0,
-        };
+        return Err(Reason::TooLittleMemoryLent.of_call());
     }
     let reading = format::read(file);
-    let format::Reading::Valid(c) = reading else {
-        return Ranged::Refused {
-            number: reading.number(),
-            automaton: 1,
-        };
+    let Ok(c) = reading else {
+        return Err(reading.unwrap_err().reason.of(Automaton::First));
     };
     judge_valid(file, c, work, places)
 }

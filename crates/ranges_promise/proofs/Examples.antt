@@ -8,11 +8,16 @@ use Rattle.format.specs.Decoding.{automaton_of}
 use Rattle.format.specs.Reading.{reading_of}
 use Rattle.file_laws.specs.Examples.{file_t}
 use Rattle.ranges_promise.specs.RangeAnswers.{ranged_of, ranged_within}
-use Rattle.ranges_promise.specs.declared.Ranged.{Ranged}
-use Rattle.ranges_promise.specs.declared.Ranged.TheVariants.{Always, Never, Refused, Sometimes}
+use Rattle.ranges_promise.specs.declared.Fillings.{Fillings}
+use Rattle.ranges_promise.specs.declared.Fillings.TheVariants.{Always, Never, Sometimes}
+use Rattle.std.specs.Prelude.{None, Ok, Result, Some}
+use Rattle.file_fields.specs.declared.Automaton.TheVariants.{First}
+use Rattle.file_fields.specs.declared.Reason.TheVariants.{BadRanges, EndsInsideAField, TooLittleMemoryLent, TooManyConfigurations, TooManyLiveSets}
+use Rattle.file_fields.specs.declared.Refusal.{Refusal}
+use Rattle.format.specs.Refusals.{refused}
 
 -- at document 02's limits: cmc is accepted and cec is not
-pub sometimes-T : ranged_of file_t (0 ∷ 0 ∷ 1 ∷ 2 ∷ 0 ∷ 0 ∷ []) 8192 ≡ Sometimes
+pub sometimes-T : ranged_of file_t (0 ∷ 0 ∷ 1 ∷ 2 ∷ 0 ∷ 0 ∷ []) 8192 ≡ Ok Sometimes
 unfolding ranged_of reading_of automaton_of configurations live_set
 sometimes-T = refl
 
@@ -27,7 +32,7 @@ judged_words =
     ∷ []
     ∷ []
 
-pub judged-T : map (λ bytes. ranged_within 5 5 file_t bytes 8192) judged_words ≡ Always ∷ Sometimes ∷ Sometimes ∷ Never ∷ Never ∷ Never ∷ []
+pub judged-T : map (λ bytes. ranged_within 5 5 file_t bytes 8192) judged_words ≡ Ok Always ∷ Ok Sometimes ∷ Ok Sometimes ∷ Ok Never ∷ Ok Never ∷ Ok Never ∷ []
 unfolding ranged_within reading_of automaton_of configurations live_set
 judged-T = refl
 
@@ -37,7 +42,7 @@ any_two = 0 ∷ 2 ∷ 0 ∷ 2 ∷ []
 
 -- T has 5 configurations, and any two letters have 3 live sets behind the first place and 5 behind both: at these limits the word is judged, and
 -- at one less of each it is refused. A byte is left over; a low is above its high; a high is not a letter
-abbrev limited : List Ranged
+abbrev limited : List (Result Fillings Refusal)
 limited =
     ranged_within 5 5 file_t any_two 8192
     ∷ ranged_within 5 5 file_t any_two 8191
@@ -49,18 +54,18 @@ limited =
     ∷ ranged_within 5 4 file_t any_two 8192
     ∷ []
 
-pub refused-T : limited ≡ Sometimes ∷ Refused 24 0 ∷ Refused 1 1 ∷ Refused 35 0 ∷ Refused 35 0 ∷ Refused 35 0 ∷ Refused 21 1 ∷ Refused 23 0 ∷ []
+pub refused-T : limited ≡ Ok Sometimes ∷ refused TooLittleMemoryLent None ∷ refused EndsInsideAField (Some First) ∷ refused BadRanges None ∷ refused BadRanges None ∷ refused BadRanges None ∷ refused TooManyConfigurations (Some First) ∷ refused TooManyLiveSets None ∷ []
 unfolding ranged_within reading_of automaton_of configurations live_set
 refused-T = refl
 
 -- each place for itself: 3 live sets behind each of two places are no more than 3, and 3 behind the first are more than 2, though there are 2
 -- behind both
-pub places-T : ranged_within 5 3 file_t (0 ∷ 2 ∷ 2 ∷ 2 ∷ []) 8192 ∷ ranged_within 5 2 file_t (0 ∷ 2 ∷ 0 ∷ 0 ∷ []) 8192 ∷ [] ≡ Never ∷ Refused 23 0 ∷ []
+pub places-T : ranged_within 5 3 file_t (0 ∷ 2 ∷ 2 ∷ 2 ∷ []) 8192 ∷ ranged_within 5 2 file_t (0 ∷ 2 ∷ 0 ∷ 0 ∷ []) 8192 ∷ [] ≡ Ok Never ∷ refused TooManyLiveSets None ∷ []
 unfolding ranged_within reading_of automaton_of configurations live_set
 places-T = refl
 
 -- the order: of the refusals whose conditions hold the first is told. With an empty file 24, the fault and 35; then 35, 21 and 23 of T
-abbrev in_order : List Ranged
+abbrev in_order : List (Result Fillings Refusal)
 in_order =
     ranged_within 4 4 [] (3 ∷ []) 8191
     ∷ ranged_within 4 4 [] (3 ∷ []) 8192
@@ -69,6 +74,6 @@ in_order =
     ∷ ranged_within 5 4 file_t any_two 8192
     ∷ []
 
-pub ordered-T : in_order ≡ Refused 24 0 ∷ Refused 1 1 ∷ Refused 35 0 ∷ Refused 21 1 ∷ Refused 23 0 ∷ []
+pub ordered-T : in_order ≡ refused TooLittleMemoryLent None ∷ refused EndsInsideAField (Some First) ∷ refused BadRanges None ∷ refused TooManyConfigurations (Some First) ∷ refused TooManyLiveSets None ∷ []
 unfolding ranged_within reading_of automaton_of configurations live_set
 ordered-T = refl

@@ -16,12 +16,16 @@ use Rattle.automata.proofs.Laws.{iff-trans, living_same, reaching_more}
 use Rattle.fillings.specs.Fillings.{Fills, Range}
 use Rattle.fillings.proofs.Laws.{fillable, filling_accepted, filling_rejected, set-accepts}
 use Rattle.format.specs.Decoding.{automaton_of}
-use Rattle.format.specs.Refusals.{FirstHolds, fault_of, unless_refused}
-use Rattle.file_laws.proofs.Laws.{NoneHolds, Outcome, at_least, first-exactly, first_some, none_first, refused-or_not}
+use Rattle.format.specs.Refusals.{FirstHolds, Refusals, fault_of, refused as refusal, unless_refused}
+use Rattle.file_laws.proofs.Laws.{NoneHolds, Outcome, at_least, first-exactly, first_some, none_first, number-above, refused-or_not}
 use Rattle.ranges_promise.specs.Promised.{AcceptedFilling, Premises, Promised, RejectedFilling, bytes_of, conditions}
 use Rattle.ranges_promise.specs.RangeAnswers.{filled_sets, fillings_of, judged, ranged_of, ranged_within, ranges_of, refusals, told}
-use Rattle.ranges_promise.specs.declared.Ranged.{Ranged}
-use Rattle.ranges_promise.specs.declared.Ranged.TheVariants.{Refused}
+use Rattle.ranges_promise.specs.declared.Fillings.{Fillings}
+use Rattle.std.specs.Prelude.{Ok, Option, Result}
+use Rattle.file_fields.specs.declared.Automaton.{Automaton as Blamed}
+use Rattle.file_fields.specs.declared.Reason.{Reason}
+use Rattle.file_fields.specs.declared.Refusal.{Refusal}
+use Rattle.file_fields.specs.Parts.{automaton_number, number_of}
 use Rattle.ranges_promise.proofs.Refusals.{bytes-again, refusals-decide, sound-ranges}
 
 module _ (file bytes : List ℕ) (words : ℕ) where
@@ -95,7 +99,7 @@ module _ (file bytes : List ℕ) (words : ℕ) where
     }
 
     -- the three by the two that are tested
-    judging : (accepted rejected : Bool) → T accepted ↔ AcceptedFilling x rs → T rejected ↔ RejectedFilling x rs → Promised file bytes words (told (judged accepted rejected))
+    judging : (accepted rejected : Bool) → T accepted ↔ AcceptedFilling x rs → T rejected ↔ RejectedFilling x rs → Promised file bytes words (told (Ok (judged accepted rejected)))
     judging true true a r =
         let y = a.0 tt in
         let n = r.0 tt in
@@ -127,14 +131,14 @@ module _ (file bytes : List ℕ) (words : ℕ) where
       λ f. (f.word, f.fills, f.rejects),
     )
 
-    answered : Promised file bytes words (told (fillings_of 256 x bytes))
+    answered : Promised file bytes words (told (Ok (fillings_of 256 x bytes)))
     unfolding fillings_of
     answered = judging (any (accepts_set x 256) (filled_sets 256 x bytes)) (any (λ S. not (accepts_set x 256 S)) (filled_sets 256 x bytes)) some-accepted some-rejected
 
   -- ---- the whole answer
-  refused : (n b : ℕ) → 0 < n → FirstHolds cs n b → Promised file bytes words (told (Refused n b))
-  refused n b pos f = record {
-    answers = (λ z. absurd (omega arith), λ p. absurd (none p));
+  refused : (why : Reason) (whose : Option Blamed) → FirstHolds cs (number_of why) (automaton_number whose) → Promised file bytes words (told (refusal why whose))
+  refused why whose f = record {
+    answers = (λ z. absurd (omega (arith, number-above why)), λ p. absurd (none p));
     placed = written;
     always = (λ t. absurd t, λ h. none h.0);
     never = (λ t. absurd t, λ h. none h.0);
@@ -145,19 +149,19 @@ module _ (file bytes : List ℕ) (words : ℕ) where
   }
     where
       none : ¬ Premises file bytes words
-      none p = first_some cs n b pos f (none_of p)
+      none p = first_some cs (number_of why) (automaton_number whose) (number-above why) f (none_of p)
 
   -- THE PROMISE of a word with ranges, from the equation of the contract.
-  pub ranging_promised : (r : Ranged) → r ≡ ranged_of file bytes words → Promised file bytes words (told r)
+  pub ranging_promised : (r : Result Fillings Refusal) → r ≡ ranged_of file bytes words → Promised file bytes words (told r)
   unfolding ranged_of ranged_within
-  ranging_promised r a = either (refused-or_not Refused answer all cs (refusals-decide file bytes words))
+  ranging_promised r a = either (refused-or_not refusal answer all cs (refusals-decide file bytes words))
     where
-      all : List (Bool × ℕ × ℕ)
+      all : Refusals
       all = refusals 256 512 file bytes words
 
-      answer : Ranged
-      answer = fillings_of 256 x bytes
+      answer : Result Fillings Refusal
+      answer = Ok (fillings_of 256 x bytes)
 
-      either : Outcome Refused answer cs (unless_refused Refused all answer) → Promised file bytes words (told r)
-      either (inl h) = subst (λ (c : Ranged). Promised file bytes words (told c)) (sym (a ∙ h.1)) (answered (Premises-of h.0))
-      either (inr h) = subst (λ (c : Ranged). Promised file bytes words (told c)) (sym (a ∙ h.4)) (refused h.0 h.1 h.2 h.3)
+      either : Outcome refusal answer cs (unless_refused refusal all answer) → Promised file bytes words (told r)
+      either (inl h) = subst (λ (c : Result Fillings Refusal). Promised file bytes words (told c)) (sym (a ∙ h.1)) (answered (Premises-of h.0))
+      either (inr h) = subst (λ (c : Result Fillings Refusal). Promised file bytes words (told c)) (sym (a ∙ h.3)) (refused h.0 h.1 h.2)

@@ -69,14 +69,14 @@ bytes-again (low ∷ high ∷ s) h = ap (λ (l : List ℕ). low ∷ high ∷ l) 
 pub refusals-decide : (file bytes : List ℕ) (words : ℕ) → Decide (refusals 256 512 file bytes words) (conditions file bytes words)
 unfolding refusals limit_refusals many_sets
 refusals-decide file bytes words = (
-  less-decided words 8192 24 0 (omega arith),
+  less-decided words 8192 _ _,
   (
-    fault_decided file 1,
+    fault_decided file _,
     (
-      decided _ 35 0 (Bad-iff (letters (automaton_of file)) bytes) (λ _. omega arith),
+      decided _ _ _ (Bad-iff (letters (automaton_of file)) bytes),
       (
-        reach-decided (automaton_of file) 256 21 1 (omega arith),
-        (decided _ 23 0 (filling_many (automaton_of file) 256 512 (ranges_of bytes) (omega arith)) (λ _. omega arith), tt),
+        reach-decided (automaton_of file) 256 _ _,
+        (decided _ _ _ (filling_many (automaton_of file) 256 512 (ranges_of bytes) (omega arith)), tt),
       ),
     ),
   ),

@@ -1,9 +1,10 @@
 -- ExpandOne: from one live set before a place. A step leaves the sets behind the letters, and those of the range are met in the table of live
 -- sets, which stands where it did.
+use Rattle.std.proofs.Common.{Option, Some, None}
 use mathlib.Core.Path.{◌∙◌, ◌≡◌, refl, sym}
 use mathlib.Core.Logic.{inr}
 use mathlib.Core.Bool.{Bool}
-use mathlib.Core.List.{List, map}
+use mathlib.Core.List.{List, [], ◌∷◌, map}
 use Prim.Native.Nat.{◌+◌, ◌-◌, ◌<◌, ◌≤◌, ℕ}
 use native.Mathlib.Omega.{arith}
 use lib.ListN.{length}
@@ -21,13 +22,10 @@ use Rattle.word_layout.specs.declared.SetTable.{SetTable}
 use Rattle.table_live.specs.Steps.{Steppable}
 use Rattle.table.proofs.Laws.{stands-many, stands-outgoing, stands-steps}
 use Rattle.live_table.specs.SetRows.{RowChain}
-use Rattle.live_table.specs.declared.Grown.{Grown}
-use Rattle.live_table.specs.declared.Grown.TheVariants.{TooMany, Total}
 use Rattle.live_table.proofs.Laws.{left-kept, rows-kept}
 use Rattle.live_letters.specs.Meeting.{LetterRoom}
-use Rattle.live_letters.proofs.Laws.{step-behind}
-use Rattle.live_sets.specs.MeetingAll.{MetAll}
-use Rattle.live_sets.proofs.Laws.{MetAll-rows, same-room}
+use Rattle.live_letters.specs.MeetingAll.{MetAll}
+use Rattle.live_letters.proofs.Laws.{MetAll-rows, one-room, step-behind}
 use Rattle.live_search.proofs.Laws.{Stepped, MetAll-sets, sets_same}
 use Rattle.live_building.proofs.Laws.{step_room, tabled}
 use Rattle.ranges_walk.specs.Walking.{BehindPlace, Chained, LiveAt, Ready, SetsIn}
@@ -38,16 +36,16 @@ pub ready-steps : {file : List ℕ} {c : Counts} {w : List ℕ} {block : Block} 
 ready-steps r = stands-steps r.stands (step_room r.only r.enough)
 
 -- the sets of the letters can be met in the table t, which has n rows
-abbrev pub Meetable : (w : List ℕ) (n met : ℕ) → SetTable → Type 0
-Meetable w n met t = ((Tabled w t × (t.sets ≡ 1)) × LetterRoom t w letter_sets letter_sets met met) × RowChain t w n
+abbrev pub Meetable : (w : List ℕ) (n : ℕ) → SetTable → Type 0
+Meetable w n t = ((Tabled w t × (t.sets ≡ 1)) × LetterRoom t w (letter_sets ∷ [])) × RowChain t w n
 
 module _ {w w' : List ℕ} {n : ℕ} (enough : 8192 ≤ length w) (few : n ≤ 512) (k : Kept letter_sets (letter_sets + 256) w w') where
   -- a step leaves the chains of the table
   pub chain-stays : RowChain set_table w n → RowChain set_table w' n
   chain-stays = rows-kept (tabled (omega arith)) k (inr (omega arith)) few
 
-  pub meetable : (met : ℕ) → RowChain set_table w n → Meetable w' n met set_table
-  meetable met chain = (((tabled (omega (arith, k.long)), refl), same-room met (omega arith) (omega (arith, k.long))), chain-stays chain)
+  pub meetable : RowChain set_table w n → Meetable w' n set_table
+  meetable chain = (((tabled (omega (arith, k.long)), refl), one-room (omega arith) (omega (arith, k.long))), chain-stays chain)
 
   -- and its sets
   pub sets-stay : (file : List ℕ) {sets : List (List Bool)} → SetsIn file set_table w n sets → SetsIn file set_table w' n sets
@@ -55,13 +53,13 @@ module _ {w w' : List ℕ} {n : ℕ} (enough : 8192 ≤ length w) (few : n ≤ 5
 
 -- ---- what is left
 -- the sets of the letters are met in the table t, from n rows on
-abbrev pub MetIn : (sets : ℕ → List ℕ) (letters w : List ℕ) (n : ℕ) (w' : List ℕ) → Grown → SetTable → Type 0
-MetIn sets letters w n w' r t = Kept t.rows (table_end t) w w' × MetAll t sets 0 letters w n w' r
+abbrev pub MetIn : (sets : ℕ → List ℕ) (letters w : List ℕ) (n : ℕ) (w' : List ℕ) → Option ℕ → SetTable → Type 0
+MetIn sets letters w n w' r t = Kept t.rows (table_end t) w w' × MetAll t sets sets 0 letters w n w' r
 
 -- the rows can be found again
-pub met-chained : (sets : ℕ → List ℕ) (letters w : List ℕ) (n : ℕ) (w' : List ℕ) (r : Grown) → MetAll set_table sets 0 letters w n w' r → n ≤ 512 → RowChain set_table w n → Chained w' r
-met-chained sets letters w n w' TooMany m few chain = tt
-met-chained sets letters w n w' (Total k) m few chain = MetAll-rows set_table sets 0 letters w n w' k m few chain
+pub met-chained : (sets : ℕ → List ℕ) (letters w : List ℕ) (n : ℕ) (w' : List ℕ) (r : Option ℕ) → MetAll set_table sets sets 0 letters w n w' r → n ≤ 512 → RowChain set_table w n → Chained w' r
+met-chained sets letters w n w' None m few chain = tt
+met-chained sets letters w n w' (Some k) m few chain = MetAll-rows set_table sets sets 0 letters w n w' k m few chain
 
 -- a step from row i, which is the live set S, leaves the sets of the letters
 module _ {file : List ℕ} {c : Counts} {w : List ℕ} {block : Block} (ready : Ready file c w block) (set : List ℕ) (i : ℕ) (is : set ≡ row w 0 i) (sets : ℕ → List ℕ)
@@ -74,8 +72,8 @@ module _ {file : List ℕ} {c : Counts} {w : List ℕ} {block : Block} (ready : 
       (λ z. step (arcs file) (stands-outgoing ready.stands) z l h)
 
   -- and so those of the range, met one after the other, join those that stand behind the place
-  pub met-behind : {w₁ : List ℕ} {n : ℕ} (low end : ℕ) (w' : List ℕ) (r : Grown) (known : List (List Bool)) → end ≤ c.letters → SetsIn file set_table w₁ n known
-      → MetAll set_table sets 0 (count_from low (end - low)) w₁ n w' r → BehindPlace file w' (add_all same_set known (map (behind_in file S) (count_from low (end - low)))) r
+  pub met-behind : {w₁ : List ℕ} {n : ℕ} (low end : ℕ) (w' : List ℕ) (r : Option ℕ) (known : List (List Bool)) → end ≤ c.letters → SetsIn file set_table w₁ n known
+      → MetAll set_table sets sets 0 (count_from low (end - low)) w₁ n w' r → BehindPlace file w' (add_all same_set known (map (behind_in file S) (count_from low (end - low)))) r
   met-behind low end w' r known h held m =
       MetAll-sets sets 0 (count_from low (end - low)) w' r (behind_in file S) known refl
       (mem_each (count_from low (end - low)) (λ l q. let p = (count_from-iff low (end - low) l).0 q in set-behind l (omega (arith, p.0, p.1)))) held m

@@ -1,4 +1,5 @@
 -- ExpandSets: the live sets before a place, expanded one after the other: what those behind it are once the first i are.
+use Rattle.std.proofs.Common.{Option, Some, None}
 use mathlib.Core.Path.{◌∙◌, ◌≡◌, ap, refl, subst, sym}
 use mathlib.Core.Bool.{Bool}
 use mathlib.Core.List.{List, [], flat_map, map}
@@ -17,8 +18,6 @@ use Rattle.word_fields.specs.Frame.{Kept}
 use Rattle.word_fields.proofs.Laws.{kept_same, kept_then}
 use Rattle.word_layout.specs.Layout.{before_table, letter_sets, set_rows, set_table}
 use Rattle.live_table.specs.SetRows.{RowChain}
-use Rattle.live_table.specs.declared.Grown.{Grown}
-use Rattle.live_table.specs.declared.Grown.TheVariants.{TooMany, Total}
 use Rattle.ranges_walk.specs.Walking.{BehindPlace, Chained, LiveAt, SetsIn}
 use Rattle.ranges_walk.proofs.WalkFrames.{before-kept, behind_in}
 
@@ -34,7 +33,7 @@ from_first file low high sets i = add_all same_set [] (flat_map (from_one file l
 pub record Expanded (file : List ℕ) (low high n : ℕ) (w₀ w : List ℕ) (m i : ℕ) : Type 0 where
   pub inside : i ≤ n
   pub kept : Kept set_rows (letter_sets + 256) w₀ w
-  pub chained : Chained w (Total m)
+  pub chained : Chained w (Some m)
   pub sets : (sets : List (List Bool)) → SetsIn file before_table w₀ n sets → SetsIn file set_table w m (from_first file low high sets i)
 
 module _ (file : List ℕ) (low high n : ℕ) where
@@ -47,7 +46,7 @@ module _ (file : List ℕ) (low high n : ℕ) where
     sets = λ sets h. record { many = refl; each = λ i S e. absurd (omega (arith, get_elem?-lt {A = List Bool} [] i e)) };
   }
 
-  module _ (few : n ≤ 512) {w₀ w w' : List ℕ} {m i : ℕ} (r : Grown) (l : i < n) (x : Expanded file low high n w₀ w m i) (k : Kept set_rows (letter_sets + 256) w w') (g : Chained w' r)
+  module _ (few : n ≤ 512) {w₀ w w' : List ℕ} {m i : ℕ} (r : Option ℕ) (l : i < n) (x : Expanded file low high n w₀ w m i) (k : Kept set_rows (letter_sets + 256) w w') (g : Chained w' r)
       (f : (S : List Bool) (sets : List (List Bool)) → LiveAt file w i S → SetsIn file set_table w m sets → BehindPlace file w' (add_all same_set sets (map (behind_in file S) (count_from low (high + 1 - low)))) r) where
     turn : (sets : List (List Bool)) → SetsIn file before_table w₀ n sets → BehindPlace file w' (from_first file low high sets (i + 1)) r
     turn sets h =
@@ -57,17 +56,17 @@ module _ (file : List ℕ) (low high n : ℕ) where
         rw (add-one i, add-one high) (sym (flat_at same_set (from_one file low high) sets i e.1)) in
         subst (λ (known : List (List Bool)). BehindPlace file w' known r) (sym z) (f e.0 (from_first file low high sets i) (b.each i e.0 e.1) (x.sets sets h))
 
-    pub Expanded-more : {more : ℕ} → r ≡ Total more → Expanded file low high n w₀ w' more (i + 1)
+    pub Expanded-more : {more : ℕ} → r ≡ Some more → Expanded file low high n w₀ w' more (i + 1)
     Expanded-more {more} e = record {
       inside = omega arith;
       kept = kept_then x.kept k;
-      chained = subst (λ (r : Grown). Chained w' r) e g;
-      sets = λ sets h. subst (λ (r : Grown). BehindPlace file w' (from_first file low high sets (i + 1)) r) e (turn sets h);
+      chained = subst (λ (r : Option ℕ). Chained w' r) e g;
+      sets = λ sets h. subst (λ (r : Option ℕ). BehindPlace file w' (from_first file low high sets (i + 1)) r) e (turn sets h);
     }
 
-    pub Expanded-over : r ≡ TooMany → (sets : List (List Bool)) → SetsIn file before_table w₀ n sets → 512 < length (behind_place same_set (behind_in file) sets (from_to low high))
+    pub Expanded-over : r ≡ None → (sets : List (List Bool)) → SetsIn file before_table w₀ n sets → 512 < length (behind_place same_set (behind_in file) sets (from_to low high))
     Expanded-over e sets h =
-        let o = subst (λ (r : Grown). BehindPlace file w' (from_first file low high sets (i + 1)) r) e (turn sets h) in
+        let o = subst (λ (r : Option ℕ). BehindPlace file w' (from_first file low high sets (i + 1)) r) e (turn sets h) in
         omega (arith, o, flat_length same_set (from_one file low high) sets (i + 1), ap length (place-start same_set (behind_in file) sets (from_to low high)))
 
   pub Expanded-end : {w₀ w : List ℕ} {m i : ℕ} → n ≤ i → Expanded file low high n w₀ w m i → (sets : List (List Bool)) → SetsIn file before_table w₀ n sets

@@ -1,5 +1,6 @@
 -- PlacesWalk: the bytes of a word with ranges, walked two by two: what the next two bytes are, and what a place more says of the live sets
 -- behind all places.
+use Rattle.std.proofs.Common.{Option, Some, None}
 use mathlib.Core.Path.{◌∙◌, ◌≡◌, ap, refl, subst, sym}
 use mathlib.Core.Logic.{inl, inr}
 use mathlib.Core.Bool.{Bool, ◌||◌, false, not, true, true≢false}
@@ -17,8 +18,6 @@ use Rattle.word_fields.specs.Frame.{Kept}
 use Rattle.word_layout.specs.Layout.{before_table, letter_sets, offsets, set_rows, set_table}
 use Rattle.word_layout.specs.declared.Block.{Block}
 use Rattle.live_table.specs.SetRows.{left_row}
-use Rattle.live_table.specs.declared.Grown.{Grown}
-use Rattle.live_table.specs.declared.Grown.TheVariants.{TooMany, Total}
 use Rattle.live_search.proofs.Laws.{sets_same}
 use Rattle.ranges_promise.specs.RangeAnswers.{bad_ranges, ranges_of}
 use Rattle.ranges_walk.specs.Walking.{BehindPlace, Ready, SetsIn, Walked}
@@ -101,7 +100,7 @@ module _ (file : List ℕ) where
           ends = k.ends ∙ ap (behind_places same_set (behind_in file) k.sets) p.ranges ∙ ends_on same_set (behind_in file) k.sets r rs;
         }
 
-  pub walk_end : {w : List ℕ} {n : ℕ} {S : List Bool} (bytes : List ℕ) (i : ℕ) → length bytes ≤ i → n ≤ 512 → WalkedTo file w n S bytes i → Walked file w (S ∷ []) (ranges_of bytes) (Total n)
+  pub walk_end : {w : List ℕ} {n : ℕ} {S : List Bool} (bytes : List ℕ) (i : ℕ) → length bytes ≤ i → n ≤ 512 → WalkedTo file w n S bytes i → Walked file w (S ∷ []) (ranges_of bytes) (Some n)
   unfolding ranges_of many_behind behind_places
   walk_end {w} {n} {S} bytes i h few k =
       let e = drop_of_length-le bytes {i = i} h in
@@ -122,12 +121,12 @@ passed_start {file} {c} {block} {bytes} {w} r e = record { ready = r; long = ref
 pub passed-place : {file : List ℕ} {c : Counts} {block : Block} {bytes w₀ w : List ℕ} {n i : ℕ} → Passed file c block bytes w₀ w n i → i < length bytes → Place c.letters bytes i
 passed-place {c = c} {bytes = bytes} {i = i} p l = place_at c.letters bytes i l p.sound
 
-module _ {file : List ℕ} {c : Counts} {block : Block} {bytes w₀ w : List ℕ} {n i : ℕ} (w' : List ℕ) (r : Grown) (p : Passed file c block bytes w₀ w n i) (l : i < length bytes)
+module _ {file : List ℕ} {c : Counts} {block : Block} {bytes w₀ w : List ℕ} {n i : ℕ} (w' : List ℕ) (r : Option ℕ) (p : Passed file c block bytes w₀ w n i) (l : i < length bytes)
     (f : (sets : List (List Bool)) → SetsIn file before_table w n sets → BehindPlace file w' (behind_place same_set (behind_in file) sets (range_at bytes i)) r) where
-  pub passed_over : r ≡ TooMany → (S : List Bool) → SetsIn file before_table w₀ 1 (S ∷ []) → Walked file w' (S ∷ []) (ranges_of bytes) TooMany
-  passed_over e S h = walk-over file bytes i (passed-place p l) (p.walks S h) (λ sets k. subst (λ (r : Grown). BehindPlace file w' (behind_place same_set (behind_in file) sets (range_at bytes i)) r) e (f sets k))
+  pub passed_over : r ≡ None → (S : List Bool) → SetsIn file before_table w₀ 1 (S ∷ []) → Walked file w' (S ∷ []) (ranges_of bytes) None
+  passed_over e S h = walk-over file bytes i (passed-place p l) (p.walks S h) (λ sets k. subst (λ (r : Option ℕ). BehindPlace file w' (behind_place same_set (behind_in file) sets (range_at bytes i)) r) e (f sets k))
 
-  pub passed-more : {m : ℕ} {w'' : List ℕ} → r ≡ Total m → Kept set_rows (letter_sets + 256) w w' → m ≤ 512 → Kept 0 offsets w' w'' → ((i : ℕ) → i < m → left_row before_table w'' i ≡ left_row set_table w' i)
+  pub passed-more : {m : ℕ} {w'' : List ℕ} → r ≡ Some m → Kept set_rows (letter_sets + 256) w w' → m ≤ 512 → Kept 0 offsets w' w'' → ((i : ℕ) → i < m → left_row before_table w'' i ≡ left_row set_table w' i)
       → Passed file c block bytes w₀ w'' m (i + 2)
   passed-more {m} {w''} e k few copied rows = record {
     ready = ready-kept (ready-kept p.ready (inr (omega arith)) k) (inl (omega arith)) copied;
@@ -135,5 +134,5 @@ module _ {file : List ℕ} {c : Counts} {block : Block} {bytes w₀ w : List ℕ
     few = few;
     sound = (passed-place p l).rest;
     walks = λ S h. walk_more file bytes i (passed-place p l) (p.walks S h)
-        (λ sets q. sets_same rows (subst (λ (r : Grown). BehindPlace file w' (behind_place same_set (behind_in file) sets (range_at bytes i)) r) e (f sets q))) few;
+        (λ sets q. sets_same rows (subst (λ (r : Option ℕ). BehindPlace file w' (behind_place same_set (behind_in file) sets (range_at bytes i)) r) e (f sets q))) few;
   }

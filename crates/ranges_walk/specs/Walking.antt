@@ -1,5 +1,6 @@
 -- Walking: what the words hold while the places of a word with ranges are walked: the automaton of a valid file, built; the live sets before a
 -- place, in rows of their own; and those behind it, in the table of live sets (crate word_layout, specs/Layout.antt).
+use Rattle.std.specs.Prelude.{Option, Some, None}
 use Rattle.std.specs.Prelude.{◌≡◌, Bool, false, List, ℕ, ◌≤◌, T, length}
 use Rattle.automata.specs.LiveSets.{behind, same_set}
 use Rattle.automata.specs.Unfolding.{configurations, plain_arcs}
@@ -12,8 +13,6 @@ use Rattle.word_layout.specs.declared.Block.{Block}
 use Rattle.word_layout.specs.declared.SetTable.{SetTable}
 use Rattle.table.specs.Standing.{Stands}
 use Rattle.live_table.specs.SetRows.{RowChain, left_row}
-use Rattle.live_table.specs.declared.Grown.{Grown}
-use Rattle.live_table.specs.declared.Grown.TheVariants.{TooMany, Total}
 use Rattle.live_search.specs.Exploring.{Sets, SetsOutcome}
 
 -- the automaton of the file is built right behind the building's tables, and the words are there
@@ -33,17 +32,17 @@ abbrev pub SetsIn : (file : List ℕ) → SetTable → (w : List ℕ) (n : ℕ) 
 SetsIn file tab w n sets = Sets (length (configurations (automaton_of file) 256)) (plain_arcs (automaton_of file) 256) tab w n sets
 
 -- these live sets stand behind the place, or they are more than 512
-abbrev pub BehindPlace : (file w : List ℕ) → List (List Bool) → Grown → Type 0
+abbrev pub BehindPlace : (file w : List ℕ) → List (List Bool) → Option ℕ → Type 0
 BehindPlace file w sets r = SetsOutcome 512 (length (configurations (automaton_of file) 256)) (plain_arcs (automaton_of file) 256) set_table w sets r
 
 -- the rows behind the place can be found, whatever they stand for
-abbrev pub Chained : (w : List ℕ) → Grown → Type 0
-Chained w TooMany = Unit {0}
-Chained w (Total n) = (n ≤ 512) × RowChain set_table w n
+abbrev pub Chained : (w : List ℕ) → Option ℕ → Type 0
+Chained w None = Unit {0}
+Chained w (Some n) = (n ≤ 512) × RowChain set_table w n
 
 -- behind one of the places there are more than 512 live sets; or those behind the last one stand where those before a place do
-abbrev pub Walked : (file w : List ℕ) (sets : List (List Bool)) → List Range → Grown → Type 0
-Walked file w sets rs TooMany = T (many_behind same_set (behind (automaton_of file) 256) 512 sets rs)
-Walked file w sets rs (Total n) =
+abbrev pub Walked : (file w : List ℕ) (sets : List (List Bool)) → List Range → Option ℕ → Type 0
+Walked file w sets rs None = T (many_behind same_set (behind (automaton_of file) 256) 512 sets rs)
+Walked file w sets rs (Some n) =
     (many_behind same_set (behind (automaton_of file) 256) 512 sets rs ≡ false)
     × ((n ≤ 512) × SetsIn file before_table w n (behind_places same_set (behind (automaton_of file) 256) sets rs))

@@ -17,8 +17,7 @@ ghost use Rattle.ranges_walk.specs.Walking.{BehindPlace, Chained, LiveAt, Ready,
 
 use format::Counts;
 use live_building::set_table;
-use live_sets::meet_letters;
-use live_table::Grown;
+use live_letters::meet_letters;
 use table_live::letters::step_letters;
 use word_fields::fill;
 use word_layout::{BEFORE_ROWS, Block, INDEX_HEADS, LETTER_SETS, SET_INDEX, SET_ROWS};
@@ -36,7 +35,7 @@ fn expand(
     end: usize,
     i: usize,
     n: usize,
-) -> Grown
+) -> Option<usize>
     requires ready { Ready file.now c w.old block × (end ≤ c.letters) }
     requires i_bound { (i < 512) × ((n ≤ 512) × RowChain set_table w.old n) }
     ensures kept { Kept set_rows (letter_sets + 256) w.old w.new }
@@ -46,7 +45,7 @@ fn expand(
 {
     let set = load(w, BEFORE_ROWS, i);
     let met = step_letters(file, c, w, block, LETTER_SETS, set);
-    meet_letters(w, set_table(), LETTER_SETS, low, end, 0, n, met)
+    meet_letters(w, set_table(), [LETTER_SETS], [met], low, end, 0, n)
 }
 
 // The live sets behind a place whose letter has a number from `low` to `high`, of the n before it; or that they are more than 512.
@@ -59,7 +58,7 @@ fn behind_place(
     low: usize,
     high: usize,
     n: usize,
-) -> Grown
+) -> Option<usize>
     requires { Ready file.now c w.old block × ((high < c.letters) × (n ≤ 512)) }
     ensures kept { Kept set_rows (letter_sets + 256) w.old w.new }
     ensures chained { Chained w.new result }
@@ -68,19 +67,10 @@ fn behind_place(
 {
     fill(w, SET_INDEX + INDEX_HEADS, 128);
     let mut behind: usize = 0;
-    let mut i: usize = 0;
-    while i < n {
-        match expand(file, c, w, block, low, high + 1, i, behind) {
-            Grown::TooMany => {
-                return Grown::TooMany;
-            }
-            Grown::Total(more) => {
-                behind = more;
-            }
-        }
-        i += 1;
+    for i in 0..n {
+        behind = expand(file, c, w, block, low, high + 1, i, behind)?;
     }
-    Grown::Total(behind)
+    Some(behind)
 }
 
 // The n live sets behind a place become those before the next one.
@@ -90,17 +80,21 @@ fn copy_rows(w: &mut [u64], n: usize)
     ensures kept { Kept 0 offsets w.old w.new }
     ensures rows { (i : ℕ) → i < n → left_row before_table w.new i ≡ left_row set_table w.old i }
 {
-    let mut i: usize = 0;
-    while i < n {
+    for i in 0..n {
         let set = load(w, SET_ROWS, i);
         store(w, BEFORE_ROWS, i, set);
-        i += 1;
     }
 }
 
 // From the live set that stands before the first place, the live sets behind the last one; or that there are more than 512 behind one of them.
 // Cost: for each place that of `behind_place`, of the sets before it, and of `copy_rows`.
-pub fn walk_places(file: &[u8], c: Counts, w: &mut [u64], block: Block, places: &[u8]) -> Grown
+pub fn walk_places(
+    file: &[u8],
+    c: Counts,
+    w: &mut [u64],
+    block: Block,
+    places: &[u8],
+) -> Option<usize>
     requires { Ready file.now c w.old block × (bad_ranges c.letters places.now ≡ false) }
     ensures same { length w.new ≡ length w.old }
     ensures walked { (S : List Bool) → SetsIn file.now before_table w.old 1 (S ∷ []) → Walked file.now w.new (S ∷ []) (ranges_of places.now) result }
@@ -108,7 +102,7 @@ pub fn walk_places(file: &[u8], c: Counts, w: &mut [u64], block: Block, places: 
     let mut n: usize = 1;
     let mut i: usize = 0;
     while i < places.len() {
-        match behind_place(
+        n = behind_place(
             file,
             c,
             w,
@@ -116,16 +110,9 @@ pub fn walk_places(file: &[u8], c: Counts, w: &mut [u64], block: Block, places: 
             places[i] as usize,
             places[i + 1] as usize,
             n,
-        ) {
-            Grown::TooMany => {
-                return Grown::TooMany;
-            }
-            Grown::Total(behind) => {
-                n = behind;
-            }
-        }
+        )?;
         copy_rows(w, n);
         i += 2;
     }
-    Grown::Total(n)
+    Some(n)
 }

@@ -2,33 +2,39 @@
 #![tactic(auto)]
 
 use book_console::console::Console;
-use book_console::refusals::say_meaning;
-use book_console::words::{say, say_number};
+use format::Reason;
+use std::fmt::Write;
 use std::process::ExitCode;
 
-// Does the number mean a refusal? Cost: constant.
-fn is_refusal(number: u8) -> bool {
-    (number >= 1 && number <= 9)
-        || number == 11
-        || (number >= 21 && number <= 25)
-        || (number >= 31 && number <= 35)
-}
-
-// The line of a number that means a refusal; of another nothing. Cost: the line.
-fn say_refusal(console: &Console, number: u8) {
-    if is_refusal(number) {
-        say_number(console, 1, number as u64);
-        say(console, 1, b" ");
-        say_meaning(console, 1, number);
-        say(console, 1, b"\n");
-    }
-}
+// Every reason of a refusal, by its number.
+const REASONS: [Reason; 20] = [
+    Reason::EndsInsideAField,
+    Reason::Mark,
+    Reason::Version,
+    Reason::HeaderCount,
+    Reason::LettersNotAscending,
+    Reason::FinalFlag,
+    Reason::ArcSource,
+    Reason::Operation,
+    Reason::BytesAfterTheLastArc,
+    Reason::JoinedBeyondALimit,
+    Reason::TooManyConfigurations,
+    Reason::TooManyPlainArcs,
+    Reason::TooManyLiveSets,
+    Reason::TooLittleMemoryLent,
+    Reason::OutputTooShort,
+    Reason::LengthTooLarge,
+    Reason::ArcLetter,
+    Reason::ArcTarget,
+    Reason::ArcOperations,
+    Reason::BadRanges,
+];
 
 // Every refusal, one a line. Cost: the lines.
 fn main(rt: HostRuntime) -> ExitCode {
-    let console = &Console::new(rt);
-    for number in 0..36 {
-        say_refusal(console, number);
+    let console = Console::new(rt);
+    for reason in REASONS {
+        let _ = writeln!(console.out(), "{} {reason}", reason.number());
     }
     console.last_status()
 }

@@ -20,9 +20,7 @@ ghost use Rattle.count_promise.specs.WordCounts.{word_count_of};
 ghost use Rattle.ranges_promise.specs.RangeAnswers.{ranged_of};
 ghost use Rattle.registered_automata.specs.Results.{written_fields, comparison_fields, word_count_fields, ranged_fields};
 
-use results::{
-    Comparison, Ranged, WordCount, Written, as_comparison, as_ranged, as_word_count, as_written,
-};
+use results::{Comparison, Ranged, WordCount, Written};
 use scanner::results::{Membership, Reading, WordsJudged};
 
 pub mod results;
@@ -64,7 +62,7 @@ pub fn ra_unfold(file: &[u8], work: &mut [u64], out: &mut [u8]) -> Written
     ensures answer { result ≡ written_fields (unfolding_of file.now (length work.old) (length out.old)) }
     ensures output { out.new ≡ output_of (unfolding_of file.now (length work.old) (length out.old)) (bytes_of (unfolded (automaton_of file.now) 256)) out.old }
 {
-    as_written(unfold::unfold(file, work, out))
+    unfold::unfold(file, work, out).into()
 }
 
 // Writes the union of the two automata. Refusals and cost: `join::union`.
@@ -72,7 +70,7 @@ pub fn ra_union(first: &[u8], second: &[u8], out: &mut [u8]) -> Written
     ensures answer { result ≡ written_fields (joined_of union first.now second.now (length out.old)) }
     ensures output { out.new ≡ output_of (joined_of union first.now second.now (length out.old)) (bytes_of (join_of union first.now second.now)) out.old }
 {
-    as_written(join::union(first, second, out))
+    join::union(first, second, out).into()
 }
 
 // Writes the concatenation of the two automata. Refusals and cost: `join::concatenate`.
@@ -80,7 +78,7 @@ pub fn ra_concatenate(first: &[u8], second: &[u8], out: &mut [u8]) -> Written
     ensures answer { result ≡ written_fields (joined_of concatenation first.now second.now (length out.old)) }
     ensures output { out.new ≡ output_of (joined_of concatenation first.now second.now (length out.old)) (bytes_of (join_of concatenation first.now second.now)) out.old }
 {
-    as_written(join::concatenate(first, second, out))
+    join::concatenate(first, second, out).into()
 }
 
 // Writes the intersection of the two automata. Refusals and cost: `join::intersect`.
@@ -88,7 +86,7 @@ pub fn ra_intersect(first: &[u8], second: &[u8], out: &mut [u8]) -> Written
     ensures answer { result ≡ written_fields (joined_of intersection first.now second.now (length out.old)) }
     ensures output { out.new ≡ output_of (joined_of intersection first.now second.now (length out.old)) (bytes_of (join_of intersection first.now second.now)) out.old }
 {
-    as_written(join::intersect(first, second, out))
+    join::intersect(first, second, out).into()
 }
 
 // Writes the closure of the automaton. Refusals and cost: `join::close`.
@@ -96,7 +94,7 @@ pub fn ra_close(file: &[u8], out: &mut [u8]) -> Written
     ensures answer { result ≡ written_fields (closed_of file.now (length out.old)) }
     ensures output { out.new ≡ output_of (closed_of file.now (length out.old)) (bytes_of (closure (automaton_of file.now))) out.old }
 {
-    as_written(join::close(file, out))
+    join::close(file, out).into()
 }
 
 // Do the two accept the same words? Else the first word that exactly one accepts is shown. Refusals and cost: `compare::compare`.
@@ -105,7 +103,7 @@ pub fn ra_compare(first: &[u8], second: &[u8], work: &mut [u64], word: &mut [u8]
     ensures answer { result ≡ comparison_fields (comparison_of first.now second.now (length work.old) (length word.old)) }
     ensures shown { word.new ≡ buffer_of (comparison_of first.now second.now (length work.old) (length word.old)) (shown_word first.now second.now) word.old }
 {
-    as_comparison(compare::compare(first, second, work, word))
+    compare::compare(first, second, work, word).into()
 }
 
 // How many words of `size` letters does the automaton of the file accept, and how many not? Refusals and cost: `count::count_words`.
@@ -113,7 +111,7 @@ pub fn ra_count_words(file: &[u8], size: u64, work: &mut [u64]) -> WordCount
     ensures same { length work.new ≡ length work.old }
     ensures answer { result ≡ word_count_fields (word_count_of file.now size (length work.old)) }
 {
-    as_word_count(count::count_words(file, size, work))
+    count::count_words(file, size, work).into()
 }
 
 // Of a word of which each letter is known only to lie in a range: does the automaton of the file accept every filling, some, or none?
@@ -122,5 +120,5 @@ pub fn ra_accepts_ranges(file: &[u8], places: &[u8], work: &mut [u64]) -> Ranged
     ensures same { length work.new ≡ length work.old }
     ensures answer { result ≡ ranged_fields (ranged_of file.now places.now (length work.old)) }
 {
-    as_ranged(ranges::accepts_ranges(file, places, work))
+    ranges::accepts_ranges(file, places, work).into()
 }

@@ -2,9 +2,13 @@
 ghost use Rattle.std.specs.Prelude.{◌≡◌};
 ghost use Rattle.registered_automata.specs.Results.{written_fields, comparison_fields, word_count_fields, ranged_fields};
 
+use format::Refusal;
+use ranges_promise::Fillings;
+
 // The length of the file that was written, with number 0; or the number of the refusal, the automaton at fault, and length 0.
+// kept: numbers for answers, the C interface (c/registered_automata.h)
 #[repr(C)]
-#[derive(Clone, Copy)]
+#[derive(Clone, Copy, PartialEq, Eq, Debug)]
 pub struct Written {
     pub length: u64,
     pub number: u8,
@@ -13,8 +17,9 @@ pub struct Written {
 
 // The number of pairs, the automaton that alone accepts the shown word, 0 where the two accept the same words, and the length of
 // that word, with number 0; or the number of the refusal and the automaton at fault, and 0 elsewhere.
+// kept: numbers for answers, the C interface (c/registered_automata.h)
 #[repr(C)]
-#[derive(Clone, Copy)]
+#[derive(Clone, Copy, PartialEq, Eq, Debug)]
 pub struct Comparison {
     pub pairs: u64,
     pub length: u64,
@@ -25,8 +30,9 @@ pub struct Comparison {
 
 // How many words of the length are accepted and how many are not, with number 0; or the number of the refusal and the automaton at
 // fault, and 0 elsewhere.
+// kept: numbers for answers, the C interface (c/registered_automata.h)
 #[repr(C)]
-#[derive(Clone, Copy)]
+#[derive(Clone, Copy, PartialEq, Eq, Debug)]
 pub struct WordCount {
     pub accepted: u64,
     pub rejected: u64,
@@ -36,109 +42,118 @@ pub struct WordCount {
 
 // 1 where every filling is accepted, 2 where some are and some are not, 3 where none is, with number 0; or the number of the refusal and
 // the automaton at fault, and 0 elsewhere.
+// kept: numbers for answers, the C interface (c/registered_automata.h)
 #[repr(C)]
-#[derive(Clone, Copy)]
+#[derive(Clone, Copy, PartialEq, Eq, Debug)]
 pub struct Ranged {
     pub number: u8,
     pub automaton: u8,
     pub answer: u8,
 }
 
-// The struct of what a call that writes a file answers. Cost: constant.
-pub fn as_written(r: file_writing::Written) -> Written
-    ensures { result ≡ written_fields r }
-{
-    match r {
-        file_writing::Written::Bytes(n) => Written {
-            length: n as u64,
-            number: 0,
-            automaton: 0,
-        },
-        file_writing::Written::Refused(n, b) => Written {
-            length: 0,
-            number: n,
-            automaton: b,
-        },
+impl From<Result<usize, Refusal>> for Written {
+    ghost from_gives = { λ answer fields. fields ≡ written_fields answer };
+
+    // The struct of what a call that writes a file answers. Cost: constant.
+    fn from(answer: Result<usize, Refusal>) -> Written {
+        match answer {
+            Ok(n) => Written {
+                length: n as u64,
+                number: 0,
+                automaton: 0,
+            },
+            Err(refused) => Written {
+                length: 0,
+                number: refused.reason.number(),
+                automaton: refused.automaton_number(),
+            },
+        }
     }
 }
 
-// The struct of what comparing answers. Cost: constant.
-pub fn as_comparison(r: compare::Comparison) -> Comparison
-    ensures { result ≡ comparison_fields r }
-{
-    match r {
-        compare::Comparison::Same(n) => Comparison {
-            pairs: n,
-            length: 0,
-            number: 0,
-            automaton: 0,
-            taker: 0,
-        },
-        compare::Comparison::Different {
-            pairs,
-            taker,
-            length,
-        } => Comparison {
-            pairs,
-            length: length as u64,
-            number: 0,
-            automaton: 0,
-            taker,
-        },
-        compare::Comparison::Refused { number, automaton } => Comparison {
-            pairs: 0,
-            length: 0,
-            number,
-            automaton,
-            taker: 0,
-        },
+impl From<compare::Comparison> for Comparison {
+    ghost from_gives = { λ answer fields. fields ≡ comparison_fields answer };
+
+    // The struct of what comparing answers. Cost: constant.
+    fn from(answer: compare::Comparison) -> Comparison {
+        match answer {
+            compare::Comparison::Same(n) => Comparison {
+                pairs: n,
+                length: 0,
+                number: 0,
+                automaton: 0,
+                taker: 0,
+            },
+            compare::Comparison::Different {
+                pairs,
+                taker,
+                length,
+            } => Comparison {
+                pairs,
+                length: length as u64,
+                number: 0,
+                automaton: 0,
+                taker,
+            },
+            compare::Comparison::Refused(refusal) => Comparison {
+                pairs: 0,
+                length: 0,
+                number: refusal.reason.number(),
+                automaton: refusal.automaton_number(),
+                taker: 0,
+            },
+        }
     }
 }
 
-// The struct of what counting answers. Cost: constant.
-pub fn as_word_count(r: count_promise::WordCount) -> WordCount
-    ensures { result ≡ word_count_fields r }
-{
-    match r {
-        count_promise::WordCount::Counted { accepted, rejected } => WordCount {
-            accepted,
-            rejected,
-            number: 0,
-            automaton: 0,
-        },
-        count_promise::WordCount::Refused { number, automaton } => WordCount {
-            accepted: 0,
-            rejected: 0,
-            number,
-            automaton,
-        },
+impl From<Result<count_promise::WordCount, Refusal>> for WordCount {
+    ghost from_gives = { λ answer fields. fields ≡ word_count_fields answer };
+
+    // The struct of what counting answers. Cost: constant.
+    fn from(answer: Result<count_promise::WordCount, Refusal>) -> WordCount {
+        match answer {
+            Ok(count) => WordCount {
+                accepted: count.accepted,
+                rejected: count.rejected,
+                number: 0,
+                automaton: 0,
+            },
+            Err(refusal) => WordCount {
+                accepted: 0,
+                rejected: 0,
+                number: refusal.reason.number(),
+                automaton: refusal.automaton_number(),
+            },
+        }
     }
 }
 
-// The struct of what is answered of a word with ranges. Cost: constant.
-pub fn as_ranged(r: ranges_promise::Ranged) -> Ranged
-    ensures { result ≡ ranged_fields r }
-{
-    match r {
-        ranges_promise::Ranged::Always => Ranged {
-            number: 0,
-            automaton: 0,
-            answer: 1,
-        },
-        ranges_promise::Ranged::Sometimes => Ranged {
-            number: 0,
-            automaton: 0,
-            answer: 2,
-        },
-        ranges_promise::Ranged::Never => Ranged {
-            number: 0,
-            automaton: 0,
-            answer: 3,
-        },
-        ranges_promise::Ranged::Refused { number, automaton } => Ranged {
-            number,
-            automaton,
-            answer: 0,
-        },
+impl From<Result<Fillings, Refusal>> for Ranged {
+    ghost from_gives = { λ answer fields. fields ≡ ranged_fields answer };
+
+    // The struct of what is answered of a word with ranges. Cost: constant.
+    fn from(answer: Result<Fillings, Refusal>) -> Ranged {
+        match answer {
+            Ok(Fillings::Always) => Ranged {
+                number: 0,
+                automaton: 0,
+                answer: 1,
+            },
+            Ok(Fillings::Sometimes) => Ranged {
+                number: 0,
+                automaton: 0,
+                answer: 2,
+            },
+            Ok(Fillings::Never) => Ranged {
+                number: 0,
+                automaton: 0,
+                answer: 3,
+            },
+            Err(refusal) => Ranged {
+                number: refusal.reason.number(),
+                automaton: refusal.automaton_number(),
+                answer: 0,
+            },
+        }
     }
 }

@@ -7,118 +7,72 @@
 ghost use Rattle.std.specs.Prelude.{◌≤◌, length};
 ghost use Rattle.line_text.specs.Writing.{Writes};
 ghost use Rattle.table.specs.Judging.{Judging};
-ghost use Rattle.book_words.specs.Places.{Standing};
 ghost use Rattle.run_check.specs.AnswerLine.{answer_line};
 
-use book_console::calls::{FAILED, NO, YES, is_help, say_usage, status_of};
+use book_console::calls::{Status, Usage};
 use book_console::console::Console;
-use book_console::files::{Loaded, load};
-use book_console::refusals::tell_refusal;
-use book_words::{
-    Output, Session, answered, begin, failed, is_over, line_feed, make_room, pass, refill,
-    status_so_far,
-};
+use book_console::files::load;
+use book_console::refusals::{Named, tell_refusal};
+use book_words::{Answers, each_line};
 use format::Counts;
+use line_text::Line;
 use table::judging::judge;
-use table::{Membership, Opened, prepare};
+use table::{Membership, prepare};
 use word_layout::Block;
+
+const USAGE: Usage = Usage {
+    command: b"check",
+    ways: &[b" FILE"],
+};
 
 // The line of an answer at a place of the output; answers the place behind it. Cost: the bytes of the line.
 fn put_answer(answer: &[u8], live: u64, word: &[u8], out: &mut [u8], at: usize) -> usize
     ensures { Writes (answer_line answer.now live word.now) at result out.old out.new }
 {
-    let mut end = line_text::put(answer, out, at);
-    end = line_text::decimal(live, out, end);
-    end = line_text::put_byte(b' ', out, end);
-    end = line_text::put(word, out, end);
-    line_text::put_byte(b'\n', out, end)
+    let mut line = Line { out, at };
+    line.put(answer);
+    line.decimal(live);
+    line.put_byte(b' ');
+    line.put(word);
+    line.put_byte(b'\n');
+    line.at
 }
 
 // Puts the line of an answer into the output. Cost: the bytes of the line, and where there is no room for it that of writing what waits.
-fn tell(
+fn tell<'a>(
     console: &Console,
     answer: &[u8],
-    status: u8,
+    status: Status,
     live: u64,
     word: &[u8],
-    out: &mut [u8],
-    output: Output,
-) -> Output {
-    let ready = make_room(console, out, output);
-    let at = ready.waiting;
-    let end = put_answer(answer, live, word, out, at);
-    answered(ready, end, status)
+    answers: &mut Answers<'a>,
+) {
+    answers.make_room(console);
+    let at = answers.waiting;
+    let end = put_answer(answer, live, word, answers.out, at);
+    answers.answered(end, status);
 }
 
-// Judges a word and tells the answer. The file is not refused, so no word is. Cost: that of `table::judging::judge` and of `tell`.
-fn answer(
+// Judges a word and tells the answer. Cost: that of `table::judging::judge` and of `tell`.
+fn answer<'a>(
     console: &Console,
     file: &[u8],
     c: Counts,
     word: &[u8],
-    out: &mut [u8],
     work: &mut [u64],
     block: Block,
-    output: Output,
-) -> Output
+    answers: &mut Answers<'a>,
+)
     requires { Judging file.now c work.old block }
     ensures { Judging file.now c work.new block }
 {
     match judge(file, c, word, work, block) {
-        Membership::Accepted(live) => tell(console, b"accepted ", YES, live, word, out, output),
-        Membership::Rejected(live) => tell(console, b"rejected ", NO, live, word, out, output),
-        Membership::Refused(_, _) => failed(),
+        Membership::Accepted(live) => tell(console, b"accepted ", Status::Yes, live, word, answers),
+        Membership::Rejected(live) => tell(console, b"rejected ", Status::No, live, word, answers),
     }
 }
 
-// One word, or a further read of the input. Cost: the bytes of the line and that of `answer`, or that of `refill`.
-fn turn(
-    console: &Console,
-    file: &[u8],
-    c: Counts,
-    text: &mut [u8],
-    out: &mut [u8],
-    work: &mut [u64],
-    block: Block,
-    s: Session,
-) -> Session
-    requires { Judging file.now c work.old block × Standing (length text.old) s.input }
-    ensures ready { Judging file.now c work.new block }
-    ensures place { Standing (length text.new) result.input }
-{
-    let input = s.input;
-    let output = s.output;
-    let from = input.from;
-    let seen = input.seen;
-    let to = input.to;
-    let feed = line_feed(text, seen, to);
-    if feed >= to {
-        return refill(console, text, out, input, output);
-    }
-    let next = pass(input, feed);
-    if input.is_skipping {
-        return Session {
-            input: next,
-            output,
-        };
-    }
-    let told = answer(
-        console,
-        file,
-        c,
-        &text[from..feed],
-        out,
-        work,
-        block,
-        output,
-    );
-    Session {
-        input: next,
-        output: told,
-    }
-}
-
-// All words, by the automaton that is ready; answers the status. Cost: that of `turn` for each line and for each read.
+// All words, by the automaton that is ready; answers the status. Cost: that of `answer` for each word, and that of `each_line`.
 fn judge_all(
     console: &Console,
     file: &[u8],
@@ -127,72 +81,55 @@ fn judge_all(
     out: &mut [u8],
     work: &mut [u64],
     block: Block,
-) -> u8
-    requires { Judging file.now c work.old block }
+) -> Status
+    requires { Judging file.now c work.old block × (length text.old ≤ 65536) }
 {
-    let mut s = begin();
-    let mut turns = u64::MAX;
-    while turns > 0 && !is_over(s) {
-        s = turn(console, file, c, text, out, work, block, s);
-        turns -= 1;
-    }
-    status_so_far(s)
+    each_line(console, text, out, |word, answers| {
+        answer(console, file, c, word.bytes, work, block, answers)
+    })
 }
 
 // All words, where the file is not refused: its table is built once. Cost: that of `table::prepare` and of `judge_all`, or that of
 // `tell_refusal`.
 fn judge_words(
     console: &Console,
-    before: usize,
     file: &[u8],
     text: &mut [u8],
     out: &mut [u8],
     work: &mut [u64],
-) -> u8
-    requires { before ≤ 1 }
+) -> Status
+    requires { length text.old ≤ 65536 }
 {
     match prepare(file, work) {
-        Opened::Refused(number, automaton) => {
-            tell_refusal(
-                console,
-                number,
-                automaton,
-                before + 1,
-                before + 1,
-                file,
-                file,
-            );
-            FAILED
+        Ok(opened) => judge_all(console, file, opened.counts, text, out, work, opened.block),
+        Err(refusal) => {
+            let named = Named {
+                argument: 0,
+                bytes: file,
+            };
+            tell_refusal(console, refusal, &[named]);
+            Status::Failed
         }
-        Opened::Open(c, block) => judge_all(console, file, c, text, out, work, block),
     }
 }
 
 // Loads the file, and judges the words by it. The output has room for what waits and for the longest line.
 // Cost: the file is read once, and then that of `judge_words`.
-fn check(console: &Console, before: usize) -> u8
-    requires { before ≤ 1 }
-{
-    let mut file = [0u8; 41293];
+fn check(console: &Console) -> Status {
+    let mut buffer = [0u8; 41293];
     let mut text = [0u8; 65536];
     let mut out = [0u8; 131136];
     let mut work = [0u64; 8192];
-    let Loaded::Bytes(n) = load(console, before + 1, &mut file) else {
-        return FAILED;
+    let Some(file) = load(console, 0, &mut buffer) else {
+        return Status::Failed;
     };
-    judge_words(console, before, &file[0..n], &mut text, &mut out, &mut work)
+    judge_words(console, file, &mut text, &mut out, &mut work)
 }
 
-// bookcheck FILE; `before` is the number of arguments in front of FILE. Answers the status. Cost: that of `check`.
-pub fn run(console: &Console, before: usize) -> u8
-    requires { before ≤ 1 }
-{
-    if is_help(console, before) {
-        return status_of(say_usage(console, 1, before, b"check", b" FILE"));
-    }
-    if console.argument_count() != before + 2 {
-        say_usage(console, 2, before, b"check", b" FILE");
-        return FAILED;
-    }
-    check(console, before)
+// bookcheck FILE. Answers the status. Cost: that of `check`.
+pub fn run(console: &Console) -> Status {
+    USAGE.run(console, |count| match count {
+        1 => Some(check(console)),
+        _ => None,
+    })
 }

@@ -4,97 +4,59 @@
 // shown, else 2.
 #![tactic(auto)]
 
-ghost use Rattle.std.specs.Prelude.{◌≤◌};
+use book_console::calls::{Status, Usage, status_of};
+use book_console::console::{Console, Stream};
+use book_console::files::load;
+use book_console::words::is_argument;
+use book_listing::{Drawing, Listing, Style};
+use format::{Counts, Fault};
+use std::fmt::Write;
 
-use book_console::calls::{FAILED, is_help, say_usage, status_of};
-use book_console::console::Console;
-use book_console::files::{Loaded, load};
-use book_console::refusals::say_meaning;
-use book_console::words::{is_argument, say, say_number};
-use format::Reading;
+const USAGE: Usage = Usage {
+    command: b"show",
+    ways: &[b" [--dot] FILE"],
+};
 
 // The line of a fault: its number, its place and what it means. Cost: the line.
-fn say_fault(console: &Console, file: i32, number: u8, place: usize) {
-    say(console, file, b"fault ");
-    say_number(console, file, number as u64);
-    say(console, file, b" at byte ");
-    say_number(console, file, place as u64);
-    say(console, file, b": ");
-    say_meaning(console, file, number);
-    say(console, file, b"\n");
+fn say_fault(console: &Console, stream: Stream, fault: Fault) {
+    let Fault { reason, place } = fault;
+    let _ = writeln!(
+        console.on(stream),
+        "fault {} at byte {place}: {reason}",
+        reason.number()
+    );
 }
 
-// The last line of a listing; a fault is told on standard error too, since a listing may go to a file. Answers the status. Cost: the line.
-fn list_end(console: &Console, reading: Reading) -> u8 {
+// What ends the file, or the line of its fault; that is told on standard error too, since a listing may go to a file, and a graph to another
+// program. Answers the status. Cost: the lines.
+fn show_end<S: Style>(console: &Console, style: &S, reading: Result<Counts, Fault>) -> Status {
     match reading {
-        Reading::Valid(_) => status_of(say(console, 1, b"-- no fault\n")),
-        Reading::Refused(number, place) => {
-            say_fault(console, 1, number, place);
-            say_fault(console, 2, number, place);
-            FAILED
+        Ok(_) => status_of(style.end(console)),
+        Err(fault) => {
+            style.begin_fault(console);
+            say_fault(console, Stream::Out, fault);
+            say_fault(console, Stream::Err, fault);
+            style.end_fault(console);
+            Status::Failed
         }
     }
 }
 
-// The file as a text. Cost: that of `book_listing::show`.
-fn list(console: &Console, file: &[u8]) -> u8 {
-    say(console, 1, b"-- ");
-    say_number(console, 1, file.len() as u64);
-    say(console, 1, b" bytes\n");
-    list_end(console, book_listing::show(console, false, file))
-}
-
-// A fault stands in the graph as a comment; it is told on standard error too, since a graph goes to another program.
-// Cost: the lines.
-fn draw_end(console: &Console, reading: Reading) -> u8 {
-    match reading {
-        Reading::Valid(_) => status_of(say(console, 1, b"}\n")),
-        Reading::Refused(number, place) => {
-            say(console, 1, b"  // ");
-            say_fault(console, 1, number, place);
-            say_fault(console, 2, number, place);
-            say(console, 1, b"}\n");
-            FAILED
-        }
-    }
-}
-
-// The file as a graph. Cost: that of `book_listing::show`.
-fn draw(console: &Console, file: &[u8]) -> u8 {
-    draw_end(console, book_listing::show(console, true, file))
-}
-
-// The file as a text or as a graph. Cost: that of `book_listing::show`.
-fn tell(console: &Console, graph: bool, file: &[u8]) -> u8 {
-    if graph {
-        return draw(console, file);
-    }
-    list(console, file)
-}
-
-// Loads the file named by an argument, and shows it. Cost: the file is read once, and then that of `tell`.
-fn show_named(console: &Console, graph: bool, argument: usize) -> u8 {
-    let mut file = [0u8; 41293];
-    let Loaded::Bytes(n) = load(console, argument, &mut file) else {
-        return FAILED;
+// Loads the file named by an argument, and shows it. Cost: the file is read once, and then that of `book_listing::show`.
+fn show_named<S: Style>(console: &Console, style: &S, argument: usize) -> Status {
+    let mut buffer = [0u8; 41293];
+    let Some(file) = load(console, argument, &mut buffer) else {
+        return Status::Failed;
     };
-    tell(console, graph, &file[0..n])
+    let reading = book_listing::show(console, style, file);
+    show_end(console, style, reading)
 }
 
-// bookshow [--dot] FILE; `before` is the number of arguments in front of these. Answers the status. Cost: that of `show_named`.
-pub fn run(console: &Console, before: usize) -> u8
-    requires { before ≤ 1 }
-{
-    if is_help(console, before) {
-        return status_of(say_usage(console, 1, before, b"show", b" [--dot] FILE"));
-    }
-    let count = console.argument_count();
-    if count == before + 3 && is_argument(console, before + 1, b"--dot") {
-        return show_named(console, true, before + 2);
-    }
-    if count == before + 2 {
-        return show_named(console, false, before + 1);
-    }
-    say_usage(console, 2, before, b"show", b" [--dot] FILE");
-    FAILED
+// bookshow [--dot] FILE. Answers the status. Cost: that of `show_named`.
+pub fn run(console: &Console) -> Status {
+    USAGE.run(console, |count| match count {
+        2 if is_argument(console, 0, b"--dot") => Some(show_named(console, &Drawing, 1)),
+        1 => Some(show_named(console, &Listing, 0)),
+        _ => None,
+    })
 }

@@ -3,59 +3,37 @@
 // The status is 0 where it was written, else 2.
 #![tactic(auto)]
 
-ghost use Rattle.std.specs.Prelude.{◌≤◌};
-
-use book_console::calls::{FAILED, is_help, say_usage, status_of};
+use book_console::calls::{Status, Usage};
 use book_console::console::Console;
-use book_console::files::{Loaded, load};
-use book_console::refusals::finish;
+use book_console::files::load;
+use book_console::refusals::{Named, finish};
 
-// Unfolds the file, and writes the result or tells the refusal. Cost: that of `unfold::unfold` and of `finish`.
-fn unfold_file(
-    console: &Console,
-    before: usize,
-    file: &[u8],
-    work: &mut [u64],
-    out: &mut [u8],
-) -> u8
-    requires { before ≤ 1 }
-{
-    let answer = unfold::unfold(file, work, out);
-    finish(
-        console,
-        answer,
-        out,
-        before + 1,
-        before + 1,
-        before + 2,
-        file,
-        file,
-    )
-}
+const USAGE: Usage = Usage {
+    command: b"unfold",
+    ways: &[b" FILE RESULT"],
+};
 
-// Loads the file, and unfolds it. The output has room for the longest file. Cost: the file is read once, and then that of `unfold_file`.
-fn unfold_named(console: &Console, before: usize) -> u8
-    requires { before ≤ 1 }
-{
-    let mut file = [0u8; 41293];
+// Unfolds the file, and writes the result or tells the refusal. The output has room for the longest file.
+// Cost: the file is read once, and then that of `unfold::unfold` and of `finish`.
+fn unfold_named(console: &Console) -> Status {
+    let mut buffer = [0u8; 41293];
     let mut work = [0u64; 8192];
     let mut out = [0u8; 41292];
-    let Loaded::Bytes(n) = load(console, before + 1, &mut file) else {
-        return FAILED;
+    let Some(file) = load(console, 0, &mut buffer) else {
+        return Status::Failed;
     };
-    unfold_file(console, before, &file[0..n], &mut work, &mut out)
+    let answer = unfold::unfold(file, &mut work, &mut out);
+    let named = Named {
+        argument: 0,
+        bytes: file,
+    };
+    finish(console, answer, &out, &[named], 1)
 }
 
-// bookunfold FILE RESULT; `before` is the number of arguments in front of FILE. Answers the status. Cost: that of `unfold_named`.
-pub fn run(console: &Console, before: usize) -> u8
-    requires { before ≤ 1 }
-{
-    if is_help(console, before) {
-        return status_of(say_usage(console, 1, before, b"unfold", b" FILE RESULT"));
-    }
-    if console.argument_count() != before + 3 {
-        say_usage(console, 2, before, b"unfold", b" FILE RESULT");
-        return FAILED;
-    }
-    unfold_named(console, before)
+// bookunfold FILE RESULT. Answers the status. Cost: that of `unfold_named`.
+pub fn run(console: &Console) -> Status {
+    USAGE.run(console, |count| match count {
+        2 => Some(unfold_named(console)),
+        _ => None,
+    })
 }

@@ -1,7 +1,9 @@
 -- Results: the struct of each answer: the fields are what the answer tells, as the promises have it. A number of 0 says that nothing was
 -- refused; a refusal leaves 0 in every field but its number, the automaton at fault and, of reading, the place.
-use Rattle.std.specs.Prelude.{cond}
-use Rattle.file_fields.specs.declared.Reading.{Reading as ReadingAnswer}
+use Rattle.std.specs.Prelude.{Result, cond}
+use Rattle.file_fields.specs.declared.Counts.{Counts}
+use Rattle.file_fields.specs.declared.Fault.{Fault}
+use Rattle.file_fields.specs.declared.Refusal.{Refusal}
 use Rattle.format.specs.Reading.{told as told_reading}
 use Rattle.table.specs.declared.Membership.{Membership as MembershipAnswer}
 use Rattle.table.specs.Membership.{told as told_membership}
@@ -12,7 +14,7 @@ use Rattle.scanner.specs.declared.results.Reading.{Reading}
 use Rattle.scanner.specs.declared.results.WordsJudged.{WordsJudged}
 
 -- of reading
-abbrev pub reading_fields : ReadingAnswer → Reading
+abbrev pub reading_fields : Result Counts Fault → Reading
 reading_fields r =
     let t = told_reading r in
     record {
@@ -27,9 +29,9 @@ reading_fields r =
     }
 
 -- of membership; 1 stands for accepted
-abbrev pub membership_fields : MembershipAnswer → Membership
+abbrev pub membership_fields : Result MembershipAnswer Refusal → Membership
 membership_fields r = let t = told_membership r in record { live = t.live; number = t.number; automaton = t.at_fault; accepted = cond t.accepted 1 0 }
 
 -- of judging many words
-abbrev pub judged_fields : Judged → WordsJudged
+abbrev pub judged_fields : Result Judged Refusal → WordsJudged
 judged_fields r = let t = told_judged r in record { count = t.count; bytes = t.bytes; number = t.number; automaton = t.at_fault }

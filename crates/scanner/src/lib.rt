@@ -9,7 +9,7 @@ ghost use Rattle.table.specs.Membership.{membership_of};
 ghost use Rattle.table_words.specs.Words.{answered, answers_of, judged_of, words_in};
 ghost use Rattle.scanner.specs.Results.{reading_fields, membership_fields, judged_fields};
 
-use results::{Membership, Reading, WordsJudged, as_membership, as_reading, as_words_judged};
+use results::{Membership, Reading, WordsJudged};
 
 pub mod results;
 
@@ -17,7 +17,7 @@ pub mod results;
 pub fn ra_read(file: &[u8]) -> Reading
     ensures { result ≡ reading_fields (reading_of file.now) }
 {
-    as_reading(format::read(file))
+    format::read(file).into()
 }
 
 // Does the automaton of the file accept the word? Refusals and cost: `table::accepts`.
@@ -25,7 +25,7 @@ pub fn ra_accepts(file: &[u8], word: &[u8], work: &mut [u64]) -> Membership
     ensures same { length work.new ≡ length work.old }
     ensures answer { result ≡ membership_fields (membership_of file.now word.now (length work.old)) }
 {
-    as_membership(table::accepts(file, word, work))
+    table::accepts(file, word, work).into()
 }
 
 // Which words, one behind the other and each with the separator behind it, does the automaton of the file accept? Refusals and cost:
@@ -41,5 +41,5 @@ pub fn ra_accepts_words(
     ensures answer { result ≡ judged_fields (judged_of file.now words.now separator (length work.old) (length answers.old)) }
     ensures answers { answers.new ≡ answered (judged_of file.now words.now separator (length work.old) (length answers.old)) (answers_of file.now (words_in separator (length answers.old) words.now) (length work.old)) answers.old }
 {
-    as_words_judged(table_words::accepts_words(file, words, separator, work, answers))
+    table_words::accepts_words(file, words, separator, work, answers).into()
 }

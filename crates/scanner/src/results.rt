@@ -2,10 +2,14 @@
 ghost use Rattle.std.specs.Prelude.{◌≡◌};
 ghost use Rattle.scanner.specs.Results.{reading_fields, membership_fields, judged_fields};
 
+use format::{Counts, Fault, Refusal};
+use table_words::Judged;
+
 // The counts of a valid file, with number 0; or the number of the fault, its place in bytes from the file's start, the automaton at
 // fault, which is 1, and counts of 0.
+// kept: numbers for answers, the C interface (c/registered_automata.h)
 #[repr(C)]
-#[derive(Clone, Copy)]
+#[derive(Clone, Copy, PartialEq, Eq, Debug)]
 pub struct Reading {
     pub letters: u64,
     pub states: u64,
@@ -19,8 +23,9 @@ pub struct Reading {
 
 // How many configurations are live after the word, and 1 where it is accepted, else 0, with number 0; or the number of the
 // refusal and the automaton at fault, and 0 elsewhere.
+// kept: numbers for answers, the C interface (c/registered_automata.h)
 #[repr(C)]
-#[derive(Clone, Copy)]
+#[derive(Clone, Copy, PartialEq, Eq, Debug)]
 pub struct Membership {
     pub live: u64,
     pub number: u8,
@@ -30,8 +35,9 @@ pub struct Membership {
 
 // How many words were judged, and how many bytes they take with the separator behind each, with number 0; or the number of the refusal and
 // the automaton at fault, and 0 elsewhere.
+// kept: numbers for answers, the C interface (c/registered_automata.h)
 #[repr(C)]
-#[derive(Clone, Copy)]
+#[derive(Clone, Copy, PartialEq, Eq, Debug)]
 pub struct WordsJudged {
     pub count: u64,
     pub bytes: u64,
@@ -39,76 +45,82 @@ pub struct WordsJudged {
     pub automaton: u8,
 }
 
-// The struct of what reading answers. Cost: constant.
-pub fn as_reading(r: format::Reading) -> Reading
-    ensures { result ≡ reading_fields r }
-{
-    match r {
-        format::Reading::Valid(c) => Reading {
-            letters: c.letters as u64,
-            states: c.states as u64,
-            registers: c.registers as u64,
-            symbols: c.symbols as u64,
-            arcs: c.arcs as u64,
-            place: 0,
-            number: 0,
-            automaton: 0,
-        },
-        format::Reading::Refused(n, place) => Reading {
-            letters: 0,
-            states: 0,
-            registers: 0,
-            symbols: 0,
-            arcs: 0,
-            place: place as u64,
-            number: n,
-            automaton: 1,
-        },
+impl From<Result<Counts, Fault>> for Reading {
+    ghost from_gives = { λ answer fields. fields ≡ reading_fields answer };
+
+    // The struct of what reading answers. Cost: constant.
+    fn from(answer: Result<Counts, Fault>) -> Reading {
+        match answer {
+            Ok(c) => Reading {
+                letters: c.letters as u64,
+                states: c.states as u64,
+                registers: c.registers as u64,
+                symbols: c.symbols as u64,
+                arcs: c.arcs as u64,
+                place: 0,
+                number: 0,
+                automaton: 0,
+            },
+            Err(fault) => Reading {
+                letters: 0,
+                states: 0,
+                registers: 0,
+                symbols: 0,
+                arcs: 0,
+                place: fault.place as u64,
+                number: fault.reason.number(),
+                automaton: 1,
+            },
+        }
     }
 }
 
-// The struct of what membership answers. Cost: constant.
-pub fn as_membership(r: table::Membership) -> Membership
-    ensures { result ≡ membership_fields r }
-{
-    match r {
-        table::Membership::Accepted(n) => Membership {
-            live: n,
-            number: 0,
-            automaton: 0,
-            accepted: 1,
-        },
-        table::Membership::Rejected(n) => Membership {
-            live: n,
-            number: 0,
-            automaton: 0,
-            accepted: 0,
-        },
-        table::Membership::Refused(n, b) => Membership {
-            live: 0,
-            number: n,
-            automaton: b,
-            accepted: 0,
-        },
+impl From<Result<table::Membership, Refusal>> for Membership {
+    ghost from_gives = { λ answer fields. fields ≡ membership_fields answer };
+
+    // The struct of what membership answers. Cost: constant.
+    fn from(answer: Result<table::Membership, Refusal>) -> Membership {
+        match answer {
+            Ok(table::Membership::Accepted(live)) => Membership {
+                live,
+                number: 0,
+                automaton: 0,
+                accepted: 1,
+            },
+            Ok(table::Membership::Rejected(live)) => Membership {
+                live,
+                number: 0,
+                automaton: 0,
+                accepted: 0,
+            },
+            Err(refusal) => Membership {
+                live: 0,
+                number: refusal.reason.number(),
+                automaton: refusal.automaton_number(),
+                accepted: 0,
+            },
+        }
     }
 }
 
-// The struct of what judging many words answers. Cost: constant.
-pub fn as_words_judged(r: table_words::Judged) -> WordsJudged
-    ensures { result ≡ judged_fields r }
-{
-    match r {
-        table_words::Judged::Words { count, bytes } => WordsJudged {
-            count: count as u64,
-            bytes: bytes as u64,
-            number: 0,
-            automaton: 0,
-        },
-        table_words::Judged::Refused(n, b) => WordsJudged {
-            count: 0,
-            bytes: 0,
-            number: n,
-            automaton: b,
-        },
+impl From<Result<Judged, Refusal>> for WordsJudged {
+    ghost from_gives = { λ answer fields. fields ≡ judged_fields answer };
+
+    // The struct of what judging many words answers. Cost: constant.
+    fn from(answer: Result<Judged, Refusal>) -> WordsJudged {
+        match answer {
+            Ok(judged) => WordsJudged {
+                count: judged.count as u64,
+                bytes: judged.bytes as u64,
+                number: 0,
+                automaton: 0,
+            },
+            Err(refusal) => WordsJudged {
+                count: 0,
+                bytes: 0,
+                number: refusal.reason.number(),
+                automaton: refusal.automaton_number(),
+            },
+        }
     }
 }

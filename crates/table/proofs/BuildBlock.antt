@@ -23,7 +23,9 @@ use Rattle.table_explore.specs.Explores.{Explores, Walked, explored_of, start_of
 use Rattle.word_layout.specs.Layout.{arcs_at, configs, map_end, starts_at}
 use Rattle.word_layout.specs.declared.Block.{Block}
 use Rattle.table_configurations.specs.Tables.{fields_of, listed}
-use Rattle.table_configurations.specs.declared.Explored.TheVariants.{Tables, TooMany}
+use Rattle.std.specs.Prelude as code
+use Rattle.std.specs.Prelude.{Some, None}
+use Rattle.table_configurations.specs.declared.Sizes.{Sizes}
 use Rattle.format.specs.Encoding.{letter_byte}
 use Rattle.word_fields.specs.Fields.{field}
 use Rattle.word_fields.specs.Frame.{Kept}
@@ -139,7 +141,13 @@ module _ (x : Automaton) (L : ℕ) (fits : length (configurations x L) ≤ L) {w
   }
 
 -- ---- from the answer of exploring
-pub explored-few : (x : Automaton) (L count plain : ℕ) → Tables count plain ≡ explored_of x L → (length (configurations x L) ≤ L) × (count ≡ length (configurations x L)) × (plain ≡ length (plain_arcs x L))
+abbrev sizes : ℕ → ℕ → code.Option Sizes
+sizes count plain = Some (record { count = count; plain = plain })
+
+same-sizes : (a b : Sizes) → Some a ≡ Some b → a ≡ b
+same-sizes a b e = cc
+
+pub explored-few : (x : Automaton) (L count plain : ℕ) → Some (record { count = count; plain = plain }) ≡ explored_of x L → (length (configurations x L) ≤ L) × (count ≡ length (configurations x L)) × (plain ≡ length (plain_arcs x L))
 unfolding explored_of
 explored-few x L count plain e = go (dec_lt L n)
   where
@@ -147,10 +155,11 @@ explored-few x L count plain e = go (dec_lt L n)
     n = length (configurations x L)
 
     go : Dec (L < n) → (n ≤ L) × (count ≡ n) × (plain ≡ length (plain_arcs x L))
-    go (yes h) = absurd (let f : Tables count plain ≡ TooMany = e ∙ rw (lt-ltb L n h) in let z : ◌≡◌ {A = ℕ} 0 1 = cc in omega arith)
-    go (no h) = let f : Tables count plain ≡ Tables n (length (plain_arcs x L)) = e ∙ rw (le-ltb L n (omega arith)) in (omega arith, cc, cc)
+    go (yes h) = absurd (let f : sizes count plain ≡ None = e ∙ rw (lt-ltb L n h) in let z : ◌≡◌ {A = ℕ} 0 1 = cc in omega arith)
+    go (no h) = let f : sizes count plain ≡ sizes n (length (plain_arcs x L)) = e ∙ rw (le-ltb L n (omega arith)) in
+        (omega arith, ap (λ (s : Sizes). s.count) (same-sizes _ _ f), ap (λ (s : Sizes). s.plain) (same-sizes _ _ f))
 
-pub explored-many : (x : Automaton) (L : ℕ) → TooMany ≡ explored_of x L → L < length (configurations x L)
+pub explored-many : (x : Automaton) (L : ℕ) → None ≡ explored_of x L → L < length (configurations x L)
 unfolding explored_of
 explored-many x L e = go (dec_lt L n)
   where
@@ -159,7 +168,7 @@ explored-many x L e = go (dec_lt L n)
 
     go : Dec (L < n) → L < n
     go (yes h) = h
-    go (no h) = absurd (let f : TooMany ≡ Tables n (length (plain_arcs x L)) = e ∙ rw (le-ltb L n (omega arith)) in let z : ◌≡◌ {A = ℕ} 0 1 = cc in omega arith)
+    go (no h) = absurd (let f : None ≡ sizes n (length (plain_arcs x L)) = e ∙ rw (le-ltb L n (omega arith)) in let z : ◌≡◌ {A = ℕ} 0 1 = cc in omega arith)
 
 -- fewer letters are told as well
 tells-fewer : {n : ℕ} {arcs : List PlainArc} {w : List ℕ} {block : Block} (k : ℕ) → k ≤ n → Tells n arcs w block → Tells k arcs w block
@@ -173,7 +182,7 @@ tells-fewer k h t = record {
 }
 
 -- What exploring leaves, once the rows are closed, tells the plain arcs by every byte but that of the empty moves, and is built.
-module _ (x : Automaton) (L : ℕ) {w w' : List ℕ} {base count plain : ℕ} (found : Explores x L w base (Tables count plain)) (few : count ≤ 256) (above : map_end ≤ base) (kept : Kept base (base + 4 * count) w w')
+module _ (x : Automaton) (L : ℕ) {w w' : List ℕ} {base count plain : ℕ} (found : Explores x L w base (Some (record { count = count; plain = plain }))) (few : count ≤ 256) (above : map_end ≤ base) (kept : Kept base (base + 4 * count) w w')
     (closed : (i j : ℕ) → i < count → T (related w' base i j) ↔ Closure (Link count (related w base)) i j) where
   abbrev block : Block
   block = record { base = base; count = count; plain = plain }
@@ -190,5 +199,5 @@ module _ (x : Automaton) (L : ℕ) {w w' : List ℕ} {base count plain : ℕ} (f
 pub stored-kept : (x : Automaton) (L : ℕ) (w w' : List ℕ) (count : ℕ) → length w' ≡ length w → ((i : ℕ) → i < count → get_or w' (configs + i) 0 ≡ get_or w (configs + i) 0) → Stored x L w count → Stored x L w' count
 stored-kept x L w w' count e f t = part_same w w' configs count e f ∙ t
 
-pub explored-stored : (x : Automaton) (L : ℕ) {w w' : List ℕ} {base count plain : ℕ} → Explores x L w base (Tables count plain) → count ≤ 256 → map_end ≤ base → Kept base (base + 4 * count) w w' → Stored x L w' count
+pub explored-stored : (x : Automaton) (L : ℕ) {w w' : List ℕ} {base count plain : ℕ} → Explores x L w base (Some (record { count = count; plain = plain })) → count ≤ 256 → map_end ≤ base → Kept base (base + 4 * count) w w' → Stored x L w' count
 explored-stored x L {w} {w'} {count = count} found few above kept = stored-kept x L w w' count kept.long (λ i h. kept.below (configs + i) (omega arith)) found.block.table

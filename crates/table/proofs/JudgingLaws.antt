@@ -11,7 +11,7 @@ use Rattle.automata.specs.Letters.{keys}
 use Rattle.automata.specs.Unfolding.{configurations, final_set, plain_arcs}
 use Rattle.file_fields.specs.Parts.{letter_bytes}
 use Rattle.file_fields.specs.declared.Counts.{Counts}
-use Rattle.file_fields.specs.declared.Reading.TheVariants.{Valid}
+use Rattle.std.specs.Prelude.{Ok}
 use Rattle.file_fields.proofs.Laws.{letters-length}
 use Rattle.format.specs.Decoding.{automaton_of}
 use Rattle.format.specs.Reading.{reading_of}
@@ -35,13 +35,13 @@ use Rattle.table.specs.Standing.{Stands}
 use Rattle.table.proofs.Standing.{stands-kept, stands-outgoing, stands-steps, stands-told}
 
 -- the letters of a valid file stand in it, as many as its counts say, and no two of them are one letter
-pub letters-there : (file : List ℕ) (c : Counts) → reading_of file ≡ Valid c → 12 + c.letters ≤ length file
+pub letters-there : (file : List ℕ) (c : Counts) → reading_of file ≡ Ok c → 12 + c.letters ≤ length file
 letters-there file c e = omega (arith, (valid-lies file c e).fits)
 
-pub letters-many : (file : List ℕ) (c : Counts) → reading_of file ≡ Valid c → length (letter_bytes c file) ≡ c.letters
+pub letters-many : (file : List ℕ) (c : Counts) → reading_of file ≡ Ok c → length (letter_bytes c file) ≡ c.letters
 letters-many file c e = letters-length c file (letters-there file c e)
 
-pub letters_apart : (file : List ℕ) (c : Counts) → reading_of file ≡ Valid c → Apart (keys (letter_bytes c file))
+pub letters_apart : (file : List ℕ) (c : Counts) → reading_of file ≡ Ok c → Apart (keys (letter_bytes c file))
 letters_apart file c e = rw (valid-alphabet file c e) at (valid-well_formed file c e).letters_apart
 
 -- a block that tells the plain arcs tells them still where words elsewhere were written
@@ -90,7 +90,7 @@ noted-linked {file} {w = w} {w'} {block} n h k l = record {
 }
 
 -- and the numbers of the letters are noted
-pub Readied-numbered : {file : List ℕ} {c : Counts} {w w' : List ℕ} {block : Block} → reading_of file ≡ Valid c → Readied file c w block → Kept byte_letters lettered_end w w' → LetterNumbers (letter_bytes c file) w' → Judging file c w' block
+pub Readied-numbered : {file : List ℕ} {c : Counts} {w w' : List ℕ} {block : Block} → reading_of file ≡ Ok c → Readied file c w block → Kept byte_letters lettered_end w w' → LetterNumbers (letter_bytes c file) w' → Judging file c w' block
 Readied-numbered {w' = w'} {block} valid r k numbers =
     let long : 8192 ≤ length w' = omega (arith, r.enough, k.long) in
     record {

@@ -4,7 +4,7 @@ use mathlib.Core.Path.{refl, sym, subst}
 use mathlib.Core.Logic.{◌↔◌, inl, inr}
 use mathlib.Core.Bool.{Bool, cond, false, true}
 use mathlib.Core.List.{List}
-use Prim.Native.Nat.{◌<◌, ℕ}
+use Prim.Native.Nat.{ℕ}
 use native.Mathlib.Omega.{arith}
 use lib.Dec.{T}
 use lib.ListN.{length}
@@ -14,13 +14,20 @@ use Rattle.automata.specs.Unfolding.{accepted_bytes, configurations, live_count}
 use Rattle.automata.specs.Words.{Language, LiveAfter}
 use Rattle.automata.proofs.Laws.{membership, reaching_more}
 use Rattle.format.specs.Decoding.{automaton_of}
-use Rattle.format.specs.Refusals.{FirstHolds, fault_of}
-use Rattle.file_laws.proofs.Laws.{Decide, NoneHolds, Outcome, at_least, fault_decided, first-exactly, first_some, less-decided, no_fault, none_first, reach-decided, refused-or_not, valid-automaton}
+use Rattle.std.specs.Prelude.{None, Ok, Option, Result, Some}
+use Rattle.file_fields.specs.Parts.{automaton_number, number_of}
+use Rattle.file_fields.specs.declared.Automaton.{Automaton as Blamed}
+use Rattle.file_fields.specs.declared.Automaton.TheVariants.{First}
+use Rattle.file_fields.specs.declared.Reason.{Reason}
+use Rattle.file_fields.specs.declared.Reason.TheVariants.{TooLittleMemoryLent, TooManyConfigurations}
+use Rattle.file_fields.specs.declared.Refusal.{Refusal}
+use Rattle.format.specs.Refusals.{FirstHolds, fault_of, refused as refusal}
+use Rattle.file_laws.proofs.Laws.{Decide, NoneHolds, Outcome, at_least, fault_decided, first-exactly, first_some, less-decided, no_fault, none_first, number-above, reach-decided, refused-or_not, valid-automaton}
 use Rattle.table.specs.Membership.{judged, membership_of, told}
 use Rattle.table.specs.Opening.{open_refusals}
 use Rattle.table.specs.Promised.{Answered, Promised, conditions}
 use Rattle.table.specs.declared.Membership.{Membership}
-use Rattle.table.specs.declared.Membership.TheVariants.{Accepted, Refused, Rejected}
+use Rattle.table.specs.declared.Membership.TheVariants.{Accepted, Rejected}
 
 module _ (file word : List ℕ) (words : ℕ) where
   abbrev x : Automaton
@@ -31,7 +38,7 @@ module _ (file word : List ℕ) (words : ℕ) where
 
   refusals-decide : Decide (open_refusals 256 file words) cs
   unfolding open_refusals
-  refusals-decide = (less-decided words 8192 24 0 (omega arith), (fault_decided file 1, (reach-decided x 256 21 1 (omega arith), tt)))
+  refusals-decide = (less-decided words 8192 TooLittleMemoryLent None, (fault_decided file (Some First), (reach-decided x 256 TooManyConfigurations (Some First), tt)))
 
   -- ---- nothing is refused where no condition holds
   none_of : Answered file words → NoneHolds cs
@@ -41,18 +48,18 @@ module _ (file word : List ℕ) (words : ℕ) where
   answered-of h = let z = at_least 0 (fault_of file) h.1.0 in record { enough = at_least words 8192 h.0; valid = omega arith; few = h.1.1.0 }
 
   -- ---- the answers
-  refused : (n b : ℕ) → 0 < n → FirstHolds cs n b → Promised file word words (told (Refused n b))
-  refused n b pos f = record {
+  refused : (why : Reason) (whose : Option Blamed) → FirstHolds cs (number_of why) (automaton_number whose) → Promised file word words (told (refusal why whose))
+  refused why whose f = record {
     accepts = (λ t. absurd t, λ p. absurd (some p.0));
     counts = λ a. absurd (some a);
-    none = (λ z. absurd (omega arith), λ a. absurd (some a));
+    none = (λ z. absurd (omega (arith, number-above why, z)), λ a. absurd (some a));
     refuses = first-exactly cs f;
   }
     where
       some : ¬ Answered file words
-      some a = first_some cs n b pos f (none_of a)
+      some a = first_some cs (number_of why) (automaton_number whose) (number-above why) f (none_of a)
 
-  answered : Answered file words → Promised file word words (told (judged 256 x word))
+  answered : Answered file words → Promised file word words (told (Ok (judged 256 x word)))
   unfolding judged
   answered a = go (accepted_bytes x 256 word) right.0 right.1
     where
@@ -61,15 +68,15 @@ module _ (file word : List ℕ) (words : ℕ) where
           let v = no_fault file a.valid in
           membership x 256 (at_least 256 (length (configurations x 256)) (λ h. a.few ((reaching_more x 256).0 h))) (valid-automaton file v.0 v.1).0.letters_apart word
 
-      go : (b : Bool) → T b ↔ Language x word → Exactly (LiveAfter x word) (live_count x 256 word) → Promised file word words (told (cond b (Accepted (live_count x 256 word)) (Rejected (live_count x 256 word))))
+      go : (b : Bool) → T b ↔ Language x word → Exactly (LiveAfter x word) (live_count x 256 word) → Promised file word words (told (Ok (cond b (Accepted (live_count x 256 word)) (Rejected (live_count x 256 word)))))
       go true l n = record { accepts = (λ t. (a, l.0 t), λ p. tt); counts = λ _. n; none = (λ _. a, λ _. refl); refuses = first-exactly cs (none_first cs (none_of a)) }
       go false l n = record { accepts = (λ t. absurd t, λ p. l.1 p.1); counts = λ _. n; none = (λ _. a, λ _. refl); refuses = first-exactly cs (none_first cs (none_of a)) }
 
   -- THE PROMISE of membership.
   pub membership_promised : Promised file word words (told (membership_of file word words))
   unfolding membership_of
-  membership_promised = either (refused-or_not Refused (judged 256 x word) (open_refusals 256 file words) cs refusals-decide)
+  membership_promised = either (refused-or_not refusal (Ok (judged 256 x word)) (open_refusals 256 file words) cs refusals-decide)
     where
-      either : Outcome Refused (judged 256 x word) cs (membership_of file word words) → Promised file word words (told (membership_of file word words))
-      either (inl h) = subst (λ (r : Membership). Promised file word words (told r)) (sym h.1) (answered (answered-of h.0))
-      either (inr h) = subst (λ (r : Membership). Promised file word words (told r)) (sym h.4) (refused h.0 h.1 h.2 h.3)
+      either : Outcome refusal (Ok (judged 256 x word)) cs (membership_of file word words) → Promised file word words (told (membership_of file word words))
+      either (inl h) = subst (λ (r : Result Membership Refusal). Promised file word words (told r)) (sym h.1) (answered (answered-of h.0))
+      either (inr h) = subst (λ (r : Result Membership Refusal). Promised file word words (told r)) (sym h.3) (refused h.0 h.1 h.2)

@@ -14,7 +14,6 @@ use Rattle.automata.specs.Lists.{Each}
 use Rattle.automata.specs.Unfolding.{configurations, final_set, plain_arcs}
 use Rattle.file_fields.specs.Parts.{first_arc, flag_bytes}
 use Rattle.file_fields.specs.declared.Counts.{Counts}
-use Rattle.file_fields.specs.declared.Reading.TheVariants.{Valid}
 use Rattle.format.specs.Decoding.{automaton_of, decoded, is_final}
 use Rattle.format.specs.Reading.{reading_of}
 use Rattle.file_laws.proofs.Laws.{file-seen, valid-arcs, valid-decoded, valid-lies, valid-ranges, valid-sizes, valid-well_formed}
@@ -25,7 +24,7 @@ use Rattle.word_sets.specs.Sets.{in_set, view}
 use Rattle.word_rows.specs.Rows.{Closure, Link, related}
 use Rattle.table_operations.specs.Arcs.{Indexed, Linked, Walkable}
 use Rattle.table_operations.proofs.Laws.{Good, indexed-kept, linked-kept}
-use Rattle.table_configurations.specs.declared.Explored.TheVariants.{Tables}
+use Rattle.std.specs.Prelude.{Ok, Some}
 use Rattle.table_configurations.proofs.Laws.{configured-kept, placed-kept}
 use Rattle.table_explore.specs.Explores.{Explores}
 use Rattle.table_explore.proofs.Laws.{configurations-packed}
@@ -44,10 +43,10 @@ use Rattle.table.proofs.FinalLaws.{configurations-states, final-view, flag_insid
 use Rattle.table.proofs.Opening.{holds-count, registers-are, valid-walkable}
 
 -- the letters of a valid file's automaton are those of its counts, at most 64
-pub letters-are : (file : List ℕ) (c : Counts) → reading_of file ≡ Valid c → letters (automaton_of file) ≡ c.letters
+pub letters-are : (file : List ℕ) (c : Counts) → reading_of file ≡ Ok c → letters (automaton_of file) ≡ c.letters
 letters-are file c e = ap (λ (d : Counts). d.letters) (valid-sizes file c e)
 
-pub letters-few : (file : List ℕ) (c : Counts) → reading_of file ≡ Valid c → letters (automaton_of file) ≤ 64
+pub letters-few : (file : List ℕ) (c : Counts) → reading_of file ≡ Ok c → letters (automaton_of file) ≤ 64
 letters-few file c e = omega (arith, letters-are file c e, (valid-ranges file c e).letters)
 
 -- ---- the final ones among the configurations that stand in the words
@@ -81,8 +80,8 @@ holds-numbered h =
 
 -- ---- an automaton that is built
 -- what exploring leaves, with its rows closed
-module _ (file : List ℕ) {c : Counts} {w w' : List ℕ} (block : Block) (e : reading_of file ≡ Valid c) (place : Placed w block.base) (indexed : Indexed c file w) (linked : Linked c file w)
-    (found : Explores (automaton_of file) 256 w block.base (Tables block.count block.plain)) (kept : Kept block.base (block.base + 4 * block.count) w w')
+module _ (file : List ℕ) {c : Counts} {w w' : List ℕ} (block : Block) (e : reading_of file ≡ Ok c) (place : Placed w block.base) (indexed : Indexed c file w) (linked : Linked c file w)
+    (found : Explores (automaton_of file) 256 w block.base (Some (record { count = block.count; plain = block.plain }))) (kept : Kept block.base (block.base + 4 * block.count) w w')
     (closed : (i j : ℕ) → i < block.count → T (related w' block.base i j) ↔ Closure (Link block.count (related w block.base)) i j) where
   few : block.count ≤ 256
   few = found.block.configured.few

@@ -1,16 +1,14 @@
 -- Standing: the configurations of a valid file's automaton in the words, and its block once its rows are closed. Crates above take both
 -- whole: what they need of them is in proofs/Laws.antt.
-use Rattle.std.specs.Prelude.{◌≡◌, List, ◌+◌, ◌≤◌, ℕ, length}
+use Rattle.std.specs.Prelude.{◌≡◌, List, ◌+◌, ◌≤◌, ℕ, length, Ok, Option, Some, None}
 use Rattle.automata.specs.Unfolding.{configurations, plain_arcs}
 use Rattle.file_fields.specs.declared.Counts.{Counts}
-use Rattle.file_fields.specs.declared.Reading.TheVariants.{Valid}
 use Rattle.format.specs.Decoding.{automaton_of}
 use Rattle.format.specs.Reading.{reading_of}
 use Rattle.word_layout.specs.Layout.{Placed, configs}
 use Rattle.word_layout.specs.declared.Block.{Block}
 use Rattle.table_operations.specs.Arcs.{Indexed, Linked}
-use Rattle.table_configurations.specs.declared.Explored.{Explored}
-use Rattle.table_configurations.specs.declared.Explored.TheVariants.{Tables, TooMany}
+use Rattle.table_configurations.specs.declared.Sizes.{Sizes}
 use Rattle.table_sets.specs.Stepping.{Tells}
 use Rattle.table_file_steps.specs.FileSteps.{Findable}
 use Rattle.table.specs.Built.{Built, Stored}
@@ -18,7 +16,7 @@ use Rattle.table.specs.Built.{Built, Stored}
 -- the file is valid and has the counts c, and the configurations of its automaton stand in the words, in the order of their numbers; they
 -- do until another automaton is built
 pub record Numbered (file : List ℕ) (c : Counts) (w : List ℕ) (count : ℕ) : Type 0 where
-  pub valid : reading_of file ≡ Valid c
+  pub valid : reading_of file ≡ Ok c
   pub few : count ≤ 256
   pub there : configs + count ≤ length w
   pub many : count ≡ length (configurations (automaton_of file) 256)
@@ -41,6 +39,6 @@ pub record Raised (file : List ℕ) (c : Counts) (w : List ℕ) (block : Block) 
   pub tells : Tells 255 (plain_arcs (automaton_of file) 256) w block
 
 -- the block from the word `base` on, of what building answers
-abbrev pub StandsBy : (file : List ℕ) (c : Counts) (w : List ℕ) (base : ℕ) → Explored → Type 0
-StandsBy file c w base TooMany = Unit {0}
-StandsBy file c w base (Tables count plain) = Raised file c w (record { base = base; count = count; plain = plain })
+abbrev pub StandsBy : (file : List ℕ) (c : Counts) (w : List ℕ) (base : ℕ) → Option Sizes → Type 0
+StandsBy file c w base None = Unit {0}
+StandsBy file c w base (Some s) = Raised file c w (record { base = base; count = s.count; plain = s.plain })

@@ -18,14 +18,12 @@ pub fn final_configurations(file: &[u8], c: Counts, w: &[u64], count: usize) -> 
 {
     let flags = flags_at(c);
     let mut out = word_sets::empty();
-    let mut i: usize = 0;
-    while i < count {
+    for i in 0..count {
         let state = state_of(w[CONFIGS + i]);
         if file[flags + state] == 1 {
             let more = word_sets::with(out, i);
             out = more;
         }
-        i += 1;
     }
     out
 }

@@ -6,9 +6,8 @@ ghost use Rattle.table.specs.Membership.{membership_of};
 ghost use Rattle.table.specs.Judging.{PreparedBy};
 ghost use Rattle.table.specs.Opening.{opened_of, HeldBy};
 
-use format::Counts;
+use format::{Automaton, Counts, Reason, Refusal};
 use judging::{judge, make_ready};
-use table_explore::Explored;
 use table_explore::walk::explore_all;
 use word_layout::{Block, FIRST_BLOCK};
 
@@ -17,60 +16,60 @@ pub mod face;
 pub mod finals;
 pub mod judging;
 
-// What opening a file answers: its counts and the block of its automaton; or the number of a refusal and the automaton at fault.
-#[derive(Clone, Copy)]
-pub enum Opened {
-    Refused(u8, u8),
-    Open(Counts, Block),
+// An open file: its counts and the block of its automaton.
+#[derive(Clone, Copy, PartialEq, Eq, Debug)]
+pub struct Opened {
+    pub counts: Counts,
+    pub block: Block,
 }
 
 // The file is read and its configurations and plain arcs are found, in the first block, whose rows are not closed. Refuses, in this
 // order: fewer than 8,192 working words, 24 (the automaton at fault is 0); a fault of the file, as `format::read` tells it; more than 256
 // configurations, 21.
 // Cost: one step for each byte of the file, and what exploring takes.
-pub fn open_file(file: &[u8], work: &mut [u64]) -> Opened
+pub fn open_file(file: &[u8], work: &mut [u64]) -> Result<Opened, Refusal>
     ensures same { length work.new ≡ length work.old }
     ensures answer { result ≡ opened_of file.now (length work.old) }
     ensures block { HeldBy file.now work.new result }
 {
     if work.len() < 8192 {
-        return Opened::Refused(24, 0);
+        return Err(Reason::TooLittleMemoryLent.of_call());
     }
     let reading = format::read(file);
-    let format::Reading::Valid(c) = reading else {
-        return Opened::Refused(reading.number(), 1);
+    let Ok(c) = reading else {
+        return Err(reading.unwrap_err().reason.of(Automaton::First));
     };
-    let Explored::Tables { count, plain } = explore_all(file, c, work, FIRST_BLOCK) else {
-        return Opened::Refused(21, 1);
+    let Some(sizes) = explore_all(file, c, work, FIRST_BLOCK) else {
+        return Err(Reason::TooManyConfigurations.of(Automaton::First));
     };
     let block = Block {
         base: FIRST_BLOCK,
-        count,
-        plain,
+        count: sizes.count,
+        plain: sizes.plain,
     };
-    Opened::Open(c, block)
+    Ok(Opened { counts: c, block })
 }
 
 // The file is opened and made ready for words to be judged by `judging::judge`, as many as there are: the table is built once. Refuses what
 // opening the file does.
 // Cost: that of `open_file` and of `judging::make_ready`.
-pub fn prepare(file: &[u8], work: &mut [u64]) -> Opened
+pub fn prepare(file: &[u8], work: &mut [u64]) -> Result<Opened, Refusal>
     ensures same { length work.new ≡ length work.old }
     ensures ready { PreparedBy file.now (length work.old) work.new result }
 {
-    match open_file(file, work) {
-        Opened::Refused(number, at_fault) => Opened::Refused(number, at_fault),
-        Opened::Open(c, block) => Opened::Open(c, make_ready(file, c, work, block)),
-    }
+    let opened = open_file(file, work)?;
+    let block = make_ready(file, opened.counts, work, opened.block);
+    Ok(Opened {
+        counts: opened.counts,
+        block,
+    })
 }
 
-// What membership answers: whether the word is accepted, with the number of configurations live after it; or the number of a
-// refusal and the automaton at fault.
-#[derive(Clone, Copy)]
+// What membership answers where nothing is refused: whether the word is accepted, with the number of configurations live after it.
+#[derive(Clone, Copy, PartialEq, Eq, Debug)]
 pub enum Membership {
     Accepted(u64),
     Rejected(u64),
-    Refused(u8, u8),
 }
 
 // Does the automaton of the file accept the word, and how many configurations are live after it? A byte stands for its letter in
@@ -83,12 +82,10 @@ pub enum Membership {
 // arc that passes costs besides a look into the table of configurations: as many steps as configurations have the key of its target, k at
 // most. Where there are at most 2,048 plain arcs, the word costs no such looks, and a letter one step for each plain arc with that letter
 // that leaves a live configuration. Nothing is allocated.
-pub fn accepts(file: &[u8], word: &[u8], work: &mut [u64]) -> Membership
+pub fn accepts(file: &[u8], word: &[u8], work: &mut [u64]) -> Result<Membership, Refusal>
     ensures same { length work.new ≡ length work.old }
     ensures answer { result ≡ membership_of file.now word.now (length work.old) }
 {
-    match prepare(file, work) {
-        Opened::Refused(number, at_fault) => Membership::Refused(number, at_fault),
-        Opened::Open(c, block) => judge(file, c, word, work, block),
-    }
+    let opened = prepare(file, work)?;
+    Ok(judge(file, opened.counts, word, work, opened.block))
 }

@@ -20,11 +20,11 @@ use word_layout::{CONFIG_HEADS, CONFIG_NEXTS, CONFIGS};
 use word_rows::{load, store};
 use word_sets::{empty, with};
 
-// What exploring finds: how many configurations and plain arcs there are, or that there are more than 256 configurations.
-#[derive(Clone, Copy)]
-pub enum Explored {
-    TooMany,
-    Tables { count: usize, plain: usize },
+// What exploring finds where there are no more than 256 configurations: how many there are, and how many plain arcs.
+#[derive(Clone, Copy, PartialEq, Eq, Debug)]
+pub struct Sizes {
+    pub count: usize,
+    pub plain: usize,
 }
 
 // A new configuration gets the number `count`, and a row that holds it alone.
@@ -74,7 +74,8 @@ fn note_arc(w: &mut [u64], base: usize, c: usize, plain: usize, letter: usize, t
     list_arc(w, base, plain, letter, target);
 }
 
-// An arc with this letter's byte leads from configuration c to `key`.
+// An arc with this letter's byte leads from configuration c to `key`. Answers how many configurations and plain arcs there are then, or
+// nothing where that would be configuration 257.
 // Cost: as many steps as configurations have the key of `key` in the chains.
 fn meet(
     w: &mut [u64],
@@ -84,32 +85,31 @@ fn meet(
     plain: usize,
     letter: usize,
     key: u64,
-) -> Explored
+) -> Option<Sizes>
     requires { (c < count) × (letter < 256) × (key < 2 ^ 40) × (plain < 2 ^ 32) × Placed w.old base × Configured w.old count }
     ensures kept { KeptBut configs map_end base (starts_at base) w.old w.new }
     ensures safe { Safe w.new count (plain + 1) result }
     ensures met { Met w.old w.new base count plain c (letter_of letter) key result }
 {
-    let target = find_word(w, CONFIGS, CONFIG_HEADS, CONFIG_NEXTS, count, key);
-    if target < count {
+    if let Some(target) = find_word(w, CONFIGS, CONFIG_HEADS, CONFIG_NEXTS, count, key) {
         note_arc(w, base, c, plain, letter, target);
-        return Explored::Tables {
+        return Some(Sizes {
             count,
             plain: plain + 1,
-        };
+        });
     }
     if count == 256 {
-        return Explored::TooMany;
+        return None;
     }
     add_configuration(w, base, count, key);
     note_arc(w, base, c, plain, letter, count);
-    Explored::Tables {
+    Some(Sizes {
         count: count + 1,
         plain: plain + 1,
-    }
+    })
 }
 
-// The arc at a place of the file has passed from configuration c, and left `regs` in the registers.
+// The arc at a place of the file has passed from configuration c, and left `regs` in the registers. Answers as `meet`.
 // Cost: as `meet`.
 pub fn arrive(
     file: &[u8],
@@ -120,7 +120,7 @@ pub fn arrive(
     c: usize,
     count: usize,
     plain: usize,
-) -> Explored
+) -> Option<Sizes>
     requires { (at + 4 ≤ length file.now) × (regs < 2 ^ 32) × (c < count) × (plain < 2 ^ 32) × Placed w.old base × Configured w.old count }
     ensures kept { KeptBut configs map_end base (starts_at base) w.old w.new }
     ensures safe { Safe w.new count (plain + 1) result }

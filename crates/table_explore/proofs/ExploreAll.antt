@@ -16,7 +16,7 @@ use Rattle.word_layout.specs.Layout.{Placed, block_end, configs, map_end, starts
 use Rattle.table_operations.specs.Packed.{hops, tos}
 use Rattle.table_configurations.specs.Known.{known_packed, next_packed, plains_of, plains_up_to}
 use Rattle.table_configurations.specs.Tables.{Configured, Counted, MetAll, Tabled}
-use Rattle.table_configurations.specs.declared.Explored.TheVariants.{Tables, TooMany}
+use Rattle.std.specs.Prelude.{Some, None}
 use Rattle.word_fields.specs.Fields.{field}
 use Rattle.word_fields.specs.Frame.{Kept, KeptBut}
 use Rattle.automata.proofs.Laws.{at_none, known-ended, known-long}
@@ -82,7 +82,7 @@ module _ {m : ℕ} {l w₀ : List ℕ} {base : ℕ} {w w₁ : List ℕ} {count p
   pub kept-walked : {w₂ : List ℕ} → KeptBut configs map_end base (starts_at base) w₁ w₂ → KeptBut configs map_end base (block_end base) w₀ w₂
   kept-walked k₂ = but_then kept-noted (but_wider (omega arith) (omega arith) (omega arith) (omega arith) k₂)
 
-  pub walking-more : {w₂ : List ℕ} {count' plain' : ℕ} → KeptBut configs map_end base (starts_at base) w₁ w₂ → Counted w₂ count (plain + m) count' plain' → MetAll w₁ w₂ base count plain c (hops m l own) (Tables count' plain')
+  pub walking-more : {w₂ : List ℕ} {count' plain' : ℕ} → KeptBut configs map_end base (starts_at base) w₁ w₂ → Counted w₂ count (plain + m) count' plain' → MetAll w₁ w₂ base count plain c (hops m l own) (Some (record { count = count'; plain = plain' }))
       → Walking m l w₀ base w₂ count' plain' (c + 1)
   walking-more {w₂} {count'} {plain'} k₂ s met = record {
     kept = kept-walked k₂;
@@ -104,7 +104,7 @@ module _ {m : ℕ} {l w₀ : List ℕ} {base : ℕ} {w w₁ : List ℕ} {count p
       start h i less (no d) = rw (le-leb plain 2048 (omega (arith, fewer)), ne_eqb i c d) (n.walking.starts (omega (arith, fewer)) i (omega arith))
 
   -- more than so many met are more than so many in all
-  pub walking-over : (L : ℕ) → c < L → (w₂ : List ℕ) → MetAll w₁ w₂ base count plain c (hops m l own) TooMany → 256 < length (known_packed m l L)
+  pub walking-over : (L : ℕ) → c < L → (w₂ : List ℕ) → MetAll w₁ w₂ base count plain c (hops m l own) None → 256 < length (known_packed m l L)
   unfolding known_packed
   walking-over L h w₂ met =
       let f = met (known_packed m l c) (plains_up_to m l c) tabled-noted in

@@ -15,9 +15,7 @@ use Rattle.word_layout.specs.Layout.{arc_heads, arc_nexts, configs, map_end, off
 use Rattle.table_operations.specs.Packed.{Hop, hop_with, hops_in, perform_packed, tos}
 use Rattle.table_configurations.specs.Known.{plain_arc, plains_of}
 use Rattle.table_configurations.specs.Tables.{Configured, Counted, Met, MetAll, Tabled}
-use Rattle.table_configurations.specs.declared.Explored.TheVariants.{Tables, TooMany}
-use Rattle.table_operations.specs.declared.Outcome.{Outcome}
-use Rattle.table_operations.specs.declared.Outcome.TheVariants.{Failed, Leaves}
+use Rattle.std.specs.Prelude.{Option, Some, None}
 use Rattle.format.specs.Decoding.{letter_of}
 use Rattle.file_fields.specs.declared.Counts.{Counts}
 use Rattle.word_fields.specs.Chains.{last}
@@ -39,7 +37,7 @@ left-start : {w : List ℕ} {base count plain : ℕ} (c : ℕ) (rest : List Hop)
 left-start c rest {all} {plains} t = record { all = all; plains = plains; tabled = t; makes = refl; lists = refl }
 
 -- the next hop is taken
-left-more : {w w'' : List ℕ} {base count plain count' plain' c : ℕ} {h : Hop} {rest : List Hop} {whole : List ℕ} {list : List PlainArc} → Met w w'' base count plain c h.letter h.to (Tables count' plain')
+left-more : {w w'' : List ℕ} {base count plain count' plain' c : ℕ} {h : Hop} {rest : List Hop} {whole : List ℕ} {list : List PlainArc} → Met w w'' base count plain c h.letter h.to (Some (record { count = count'; plain = plain' }))
     → Left w base count plain c (h ∷ rest) whole list → Left w'' base count' plain' c rest whole list
 unfolding add_all plains_of
 left-more {c = c} {h = h} {rest = rest} met l = record {
@@ -51,7 +49,7 @@ left-more {c = c} {h = h} {rest = rest} met l = record {
 }
 
 left_over : {w : List ℕ} (w'' : List ℕ) {base count plain c : ℕ} {h : Hop} {rest : List Hop} {whole : List ℕ} {list : List PlainArc}
-    → Met w w'' base count plain c h.letter h.to TooMany → Left w base count plain c (h ∷ rest) whole list → 256 < length whole
+    → Met w w'' base count plain c h.letter h.to None → Left w base count plain c (h ∷ rest) whole list → 256 < length whole
 unfolding add_all
 left_over w'' {h = h} {rest = rest} met l = omega (arith, met l.all l.plains l.tabled, add_all-length eqb (add eqb l.all h.to) (tos rest), ap length l.makes)
 
@@ -117,7 +115,7 @@ module _ {file w₀ : List ℕ} {n : Counts} {base c count₀ plain₀ own : ℕ
 
   -- it has p operations: what they make of the configuration comes first
   module _ {p : ℕ} (size : p ≡ get_or file (at + 3) 0) where
-    abbrev outcome : Outcome
+    abbrev outcome : Option ℕ
     outcome = perform_packed p (drop (at + 4) file) (own % 2 ^ 32)
 
     abbrev rest : List Hop
@@ -128,7 +126,7 @@ module _ {file w₀ : List ℕ} {n : Counts} {base c count₀ plain₀ own : ℕ
     unroll = rw (chosen_on (state_of file w₀) (own / 2 ^ 32) t.going.upto j on.below on.keyed on.none, ← place, hop-at file at own, size)
 
     -- they fail
-    pub going-failed : outcome ≡ Failed → Going file w₀ n base c count₀ plain₀ own w count plain j'
+    pub going-failed : outcome ≡ None → Going file w₀ n base c count₀ plain₀ own w count plain j'
     going-failed f = record {
       kept = t.going.kept;
       more = t.going.more;
@@ -141,7 +139,7 @@ module _ {file w₀ : List ℕ} {n : Counts} {base c count₀ plain₀ own : ℕ
     }
 
     -- they leave v, and the hop is taken
-    module _ {v : ℕ} (f : outcome ≡ Leaves v) where
+    module _ {v : ℕ} (f : outcome ≡ Some v) where
       abbrev taken : Hop
       taken = record { letter = letter_of (get_or file (at + 1) 0); to = v + get_or file (at + 2) 0 * 2 ^ 32 }
 
@@ -149,7 +147,7 @@ module _ {file w₀ : List ℕ} {n : Counts} {base c count₀ plain₀ own : ℕ
           → Left w base count plain c (taken ∷ rest) (add_all eqb all (tos (hops_in n file own))) (plains ++ plains_of c all (hops_in n file own))
       passed all plains s = rw (unroll, f) at (t.going.left all plains s)
 
-      pub going-met : {w'' : List ℕ} {count' plain' : ℕ} → KeptBut configs map_end base (starts_at base) w w'' → Counted w'' count (plain + 1) count' plain' → Met w w'' base count plain c taken.letter taken.to (Tables count' plain')
+      pub going-met : {w'' : List ℕ} {count' plain' : ℕ} → KeptBut configs map_end base (starts_at base) w w'' → Counted w'' count (plain + 1) count' plain' → Met w w'' base count plain c taken.letter taken.to (Some (record { count = count'; plain = plain' }))
           → Going file w₀ n base c count₀ plain₀ own w'' count' plain' j'
       going-met b s met = record {
         kept = but_then t.going.kept b;
@@ -163,12 +161,12 @@ module _ {file w₀ : List ℕ} {n : Counts} {base c count₀ plain₀ own : ℕ
       }
 
       -- or there are too many
-      pub going-over : (w'' : List ℕ) → Met w w'' base count plain c taken.letter taken.to TooMany → MetAll w₀ w'' base count₀ plain₀ c (hops_in n file own) TooMany
+      pub going-over : (w'' : List ℕ) → Met w w'' base count plain c taken.letter taken.to None → MetAll w₀ w'' base count₀ plain₀ c (hops_in n file own) None
       going-over w'' met all plains h = left_over w'' met (passed all plains h)
 
 -- ---- the end of the chain
 pub going_end : {file w₀ : List ℕ} {n : Counts} {base c count₀ plain₀ own : ℕ} {w : List ℕ} {count plain j : ℕ} → Going file w₀ n base c count₀ plain₀ own w count plain j
-    → n.arcs ≤ j → MetAll w₀ w base count₀ plain₀ c (hops_in n file own) (Tables count plain)
+    → n.arcs ≤ j → MetAll w₀ w base count₀ plain₀ c (hops_in n file own) (Some (record { count = count; plain = plain }))
 unfolding collect
 going_end {file} {w₀} {own = own} g h all plains t =
     left_end (rw (chosen-off (state_of file w₀) (own / 2 ^ 32) g.upto (off_chain (state_of file w₀) (own / 2 ^ 32) g.few g.here h)) at (g.left all plains t))

@@ -12,7 +12,7 @@ use Rattle.word_layout.specs.Layout.{Placed}
 use Rattle.table_configurations.specs.Known.{known_packed, plains_up_to}
 use Rattle.table_operations.specs.Packed.{pack}
 use Rattle.table_configurations.specs.Tables.{Tabled}
-use Rattle.table_configurations.specs.declared.Explored.TheVariants.{Tables, TooMany}
+use Rattle.std.specs.Prelude.{Some, None}
 use Rattle.format.specs.Decoding.{arcs_of}
 use Rattle.format.specs.Placed.{OkArcs}
 use Rattle.table_configurations.proofs.Laws.{all-length}
@@ -24,7 +24,7 @@ module _ (x : Automaton) (n m : ℕ) (l : List ℕ) (few : n ≤ 8) (regs : x.re
   all-many = sym (length-map (configurations x L) pack) ∙ ap length (configurations-packed x n m l few regs arcs ok L).0
 
   -- more than L
-  pub Explores-many : (w : List ℕ) (base : ℕ) → 256 < length (known_packed m l L) → Explores x L w base TooMany
+  pub Explores-many : (w : List ℕ) (base : ℕ) → 256 < length (known_packed m l L) → Explores x L w base None
   unfolding explored_of
   Explores-many w base h = record { answer = rw (lt-ltb L (length (configurations x L)) (omega (arith, all-many))); block = tt }
 
@@ -39,15 +39,15 @@ module _ (x : Automaton) (n m : ℕ) (l : List ℕ) (few : n ≤ 8) (regs : x.re
     plains : plain_arcs x L ≡ plains_up_to m l L
     plains = plain_arcs-packed x n m l few regs arcs ok L (omega (arith, many, g.configured.few))
 
-    answered : Tables count plain ≡ explored_of x L
+    answered : Some (record { count = count; plain = plain }) ≡ explored_of x L
     unfolding explored_of
-    answered = rw (le-ltb L (length (configurations x L)) (omega (arith, many, g.configured.few)), many, plains) (ap (Tables count) tabled.counted)
+    answered = rw (le-ltb L (length (configurations x L)) (omega (arith, many, g.configured.few)), many, plains) (ap (λ (p : ℕ). Some (record { count = count; plain = p })) tabled.counted)
 
     started : (s : ℕ) → s < count → length (plains_up_to m l s) ≡ start_of x L s
     unfolding start_of
     started s h = ap length (sym (plain_all-packed x n m l few regs arcs ok L s (omega (arith, g.configured.few))))
 
-    pub Explores-all : Explores x L w base (Tables count plain)
+    pub Explores-all : Explores x L w base (Some (record { count = count; plain = plain }))
     Explores-all = record {
       answer = answered;
       block = record {

@@ -13,8 +13,7 @@ ghost use Rattle.table_explore.specs.Explores.{Explores};
 
 use format::Counts;
 use format::fields::byte;
-use table_configurations::{Explored, add_configuration, arrive};
-use table_operations::Outcome;
+use table_configurations::{Sizes, add_configuration, arrive};
 use table_operations::arcs::{index_arcs, link_arcs};
 use table_operations::configurations::{contents_of, state_of};
 use table_operations::operations::operate_at;
@@ -22,7 +21,7 @@ use table_sets::start_arcs;
 use word_fields::{fill, get16};
 use word_layout::{ARC_HEADS, ARC_NEXTS, CONFIG_HEADS, CONFIGS, OFFSETS};
 
-// Every arc that passes from configuration c, along the chain of its state. The first operation that fails drops the arc: the walk goes
+// Every arc that passes from configuration c, along the chain of its state; nothing where there come to be too many configurations. The first operation that fails drops the arc: the walk goes
 // on with the next one from inside the loop over the operations (`operations::pass` performs an arc alone).
 // Cost: one step for each operation of the arcs that leave the state of c, and what `arrive` takes for each that passes.
 fn explore_one(
@@ -33,7 +32,7 @@ fn explore_one(
     c: usize,
     from_count: usize,
     from_plain: usize,
-) -> Explored
+) -> Option<Sizes>
     requires walkable { Walkable counts file.now × Indexed counts file.now w.old × Linked counts file.now w.old }
     requires c_lt_from_count { (c < from_count) × (from_plain < 2 ^ 31) × Placed w.old base × Configured w.old from_count }
     ensures kept { KeptBut configs map_end base (starts_at base) w.old w.new }
@@ -41,40 +40,26 @@ fn explore_one(
     ensures met { MetAll w.old w.new base from_count from_plain c (hops_in counts file.now (get_or w.old (configs + c) 0)) result }
 {
     let own = w[CONFIGS + c];
-    let mut count = from_count;
-    let mut plain = from_plain;
+    let mut sizes = Sizes {
+        count: from_count,
+        plain: from_plain,
+    };
     let mut j = get16(w, ARC_HEADS, state_of(own));
+    // kept: the words are written while the chain is walked, and the inner loop leaves by this loop's label (docs/DECISIONS.md, "Forms of the code")
     'arcs: while j < counts.arcs {
         let at = get16(w, OFFSETS, j);
         j = get16(w, ARC_NEXTS, j);
         let p = byte(file, at + 3);
         let mut regs = contents_of(own);
-        let mut k: usize = 0;
-        while k < p {
-            match operate_at(file, at + 4 + 2 * k, regs) {
-                Outcome::Failed => {
-                    continue 'arcs;
-                }
-                Outcome::Leaves(next) => {
-                    regs = next;
-                }
-            }
-            k += 1;
+        for k in 0..p {
+            let Some(next) = operate_at(file, at + 4 + 2 * k, regs) else {
+                continue 'arcs;
+            };
+            regs = next;
         }
-        match arrive(file, at, regs, w, base, c, count, plain) {
-            Explored::TooMany => {
-                return Explored::TooMany;
-            }
-            Explored::Tables {
-                count: more,
-                plain: listed,
-            } => {
-                count = more;
-                plain = listed;
-            }
-        }
+        sizes = arrive(file, at, regs, w, base, c, sizes.count, sizes.plain)?;
     }
-    Explored::Tables { count, plain }
+    Some(sizes)
 }
 
 // The chains of arcs, and the first configuration: state 0 with all registers empty.
@@ -103,33 +88,23 @@ fn note_start(w: &mut [u64], base: usize, c: usize, plain: usize)
     }
 }
 
-// All configurations and plain arcs of the automaton whose file this is.
+// All configurations and plain arcs of the automaton whose file this is: how many there are, or nothing where there are more than 256
+// configurations.
 // Cost: one step for each arc, then for each configuration what `explore_one` takes.
-pub fn explore_all(file: &[u8], counts: Counts, w: &mut [u64], base: usize) -> Explored
+pub fn explore_all(file: &[u8], counts: Counts, w: &mut [u64], base: usize) -> Option<Sizes>
     requires { Walkable counts file.now × Placed w.old base }
     ensures kept { KeptBut offsets map_end base (block_end base) w.old w.new }
     ensures arcs { Indexed counts file.now w.new × Linked counts file.now w.new }
     ensures explores { (x : Automaton) → x.registers ≡ counts.registers → x.arcs ≡ arcs_of counts.arcs (drop (first_arc counts) file.now) → Explores x 256 w.new base result }
 {
     prepare(file, counts, w, base);
-    let mut count: usize = 1;
-    let mut plain: usize = 0;
+    let mut sizes = Sizes { count: 1, plain: 0 };
     let mut c: usize = 0;
-    while c < count {
-        note_start(w, base, c, plain);
-        match explore_one(file, counts, w, base, c, count, plain) {
-            Explored::TooMany => {
-                return Explored::TooMany;
-            }
-            Explored::Tables {
-                count: more,
-                plain: listed,
-            } => {
-                count = more;
-                plain = listed;
-            }
-        }
+    // kept: the number of configurations grows while they are walked, so no range says which are to come
+    while c < sizes.count {
+        note_start(w, base, c, sizes.plain);
+        sizes = explore_one(file, counts, w, base, c, sizes.count, sizes.plain)?;
         c += 1;
     }
-    Explored::Tables { count, plain }
+    Some(sizes)
 }

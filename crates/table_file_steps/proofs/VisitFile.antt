@@ -15,8 +15,8 @@ use Rattle.automata.proofs.Laws.{and-iff, eqb-iff, or_iff}
 use Rattle.table_operations.specs.Arcs.{ArcAt, Indexed, Linked, Walkable, place_of}
 use Rattle.word_layout.specs.Layout.{arc_heads, arc_nexts, block_end, configs, map_end, offsets}
 use Rattle.table_operations.specs.Packed.{Hop, hop, hop_with, hops, perform_packed}
-use Rattle.table_operations.specs.declared.Outcome.{Outcome}
-use Rattle.table_operations.specs.declared.Outcome.TheVariants.{Failed, Leaves}
+use Rattle.std.specs.Prelude as code
+use Rattle.std.specs.Prelude.{Some, None}
 use Rattle.table_operations.proofs.Laws.{entry_at, hop-at, hops-chosen, hops_of, state_of}
 use Rattle.table_configurations.proofs.Laws.{configured-kept}
 use Rattle.format.specs.Decoding.{letter_of}
@@ -37,7 +37,7 @@ use Rattle.table_sets.proofs.Laws.{SameBlock, block-kept, related-kept}
 -- the arc at a place passes from `own` with letter p and leads to j
 pub record Passes (file : List ℕ) (at own : ℕ) (w : List ℕ) (block : Block) (p j : ℕ) : Type 0 where
   pub regs : ℕ
-  pub outcome : perform_packed (get_or file (at + 3) 0) (drop (at + 4) file) (own % 2 ^ 32) ≡ Leaves regs
+  pub outcome : perform_packed (get_or file (at + 3) 0) (drop (at + 4) file) (own % 2 ^ 32) ≡ Some regs
   pub letter : get_or file (at + 1) 0 ≡ p
   pub to : ℕ
   pub few : to < block.count
@@ -60,10 +60,10 @@ module _ (file : List ℕ) (at own : ℕ) (w : List ℕ) (block : Block) where
   Led-passes : (p j : ℕ) → Led w block (prepend (hop (drop at file) own) []) p j → Passes file at own w block p j
   Led-passes p j d = go (perform_packed (get_or file (at + 3) 0) (drop (at + 4) file) (own % 2 ^ 32)) refl (rw (hop-at file at own) at d.among)
     where
-      go : (o : Outcome) → perform_packed (get_or file (at + 3) 0) (drop (at + 4) file) (own % 2 ^ 32) ≡ o
+      go : (o : code.Option ℕ) → perform_packed (get_or file (at + 3) 0) (drop (at + 4) file) (own % 2 ^ 32) ≡ o
           → Memᴰ d.hop (prepend (hop_with o (letter_of (get_or file (at + 1) 0)) (get_or file (at + 2) 0)) []) → Passes file at own w block p j
-      go Failed e m = absurd (Memᴰ.not-nil m)
-      go (Leaves v) e m = ⊎_elim (λ q. record {
+      go None e m = absurd (Memᴰ.not-nil m)
+      go (Some v) e m = ⊎_elim (λ q. record {
         regs = v;
         outcome = e;
         letter = letter-is (get_or file (at + 1) 0) p (sym (ap (λ (h : Hop). h.letter) q) ∙ d.letter);
@@ -101,10 +101,10 @@ module _ (file : List ℕ) (at own : ℕ) (w : List ℕ) (block : Block) where
   )
 
   -- the arc leaves `regs`, and the configuration with the word `key` is looked up
-  module _ {letter regs key t : ℕ} (el : letter ≡ get_or file (at + 1) 0) (eo : perform_packed (get_or file (at + 3) 0) (drop (at + 4) file) (own % 2 ^ 32) ≡ Leaves regs)
+  module _ {letter regs key t : ℕ} (el : letter ≡ get_or file (at + 1) 0) (eo : perform_packed (get_or file (at + 3) 0) (drop (at + 4) file) (own % 2 ^ 32) ≡ Some regs)
       (ek : key ≡ regs + get_or file (at + 2) 0 * 2 ^ 32) (found : Found (WordAt w configs key) block.count t) where
     word_at : {p j : ℕ} (a : Passes file at own w block p j) → get_or w (configs + a.to) 0 ≡ key
-    word_at a = let q : Leaves a.regs ≡ Leaves regs = sym a.outcome ∙ eo in let r : a.regs ≡ regs = cc in a.is ∙ ap (λ (x : ℕ). x + get_or file (at + 2) 0 * 2 ^ 32) r ∙ sym ek
+    word_at a = let q : Some a.regs ≡ Some regs = sym a.outcome ∙ eo in let r : a.regs ≡ regs = cc in a.is ∙ ap (λ (x : ℕ). x + get_or file (at + 2) 0 * 2 ^ 32) r ∙ sym ek
 
     -- it is there
     pub leads_one : Findable w block.count → t < block.count → (p j : ℕ) → p < 64 → (T (eqb p letter) × T (related w block.base t j)) ↔ Passes file at own w block p j

@@ -15,7 +15,6 @@ ghost use Rattle.table_file_steps.specs.FileSteps.{Led, FromFile, Findable};
 
 use format::Counts;
 use format::fields::byte;
-use table_operations::Outcome;
 use table_operations::configurations::{configuration, state_of};
 use table_operations::operations::pass;
 use table_sets::into;
@@ -43,15 +42,14 @@ fn take_arc(
     if 64 <= letter {
         return met;
     }
-    let Outcome::Leaves(regs) = pass(file, at, own) else {
+    let Some(regs) = pass(file, at, own) else {
         return met;
     };
     let key = configuration(byte(file, at + 2), regs);
-    let t = find_word(w, CONFIGS, CONFIG_HEADS, CONFIG_NEXTS, block.count, key);
-    if t < block.count {
-        return into(w, block.base, acc, letter, t, met);
-    }
-    met
+    let Some(t) = find_word(w, CONFIGS, CONFIG_HEADS, CONFIG_NEXTS, block.count, key) else {
+        return met;
+    };
+    into(w, block.base, acc, letter, t, met)
 }
 
 // Every arc that leaves the state of configuration c, along its chain.
@@ -73,6 +71,7 @@ fn visit_file(
     let own = w[CONFIGS + c];
     let mut out = met;
     let mut j = get16(w, ARC_HEADS, state_of(own));
+    // kept: the words are written while the chain is walked, and an iterator over it would hold them lent
     while j < counts.arcs {
         let at = get16(w, OFFSETS, j);
         j = get16(w, ARC_NEXTS, j);

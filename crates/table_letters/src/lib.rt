@@ -31,11 +31,7 @@ fn clear_rows(w: &mut [u64], base: usize, n: usize)
     requires { base + 4 * n ≤ length w.old }
     ensures kept { Kept base (base + 4 * n) w.old w.new }
 {
-    let mut i: usize = 0;
-    while i < 4 * n {
-        w[base + i] = 0;
-        i += 1;
-    }
+    w[base..base + 4 * n].fill(0);
 }
 
 // The listed arcs from `from` to before `to`, those of the configuration c, join the chains of their letters and c, and c the sets of their
@@ -46,13 +42,11 @@ fn link_one(w: &mut [u64], block: Block, letters: usize, from: usize, to: usize,
     ensures kept { KeptBut letter_heads letter_heads_end letter_nexts byte_letters w.old w.new }
     ensures linked { Linked letters w.old block from → Linked letters w.new block to }
 {
-    let mut k = from;
-    while k < to {
+    for k in from..to {
         let arc = listed_arc(w, block.base, k);
         let row = row_of(letters, arc.letter);
         push(w, LETTER_HEADS, LETTER_NEXTS, 256 * row + c, k);
         word_rows::add(w, LETTER_SOURCES, row, c);
-        k += 1;
     }
 }
 
@@ -65,12 +59,10 @@ pub fn link(w: &mut [u64], block: Block, letters: usize)
 {
     fill(w, LETTER_HEADS, 64 * letters + 64);
     clear_rows(w, LETTER_SOURCES, letters + 1);
-    let mut c: usize = 0;
-    while c < block.count {
+    for c in 0..block.count {
         let from = first_arc(w, block.base, c);
         let to = end_of(w, block.base, block.count, block.plain, c);
         link_one(w, block, letters, from, to, c);
-        c += 1;
     }
 }
 
@@ -124,11 +116,9 @@ pub fn follow(w: &[u64], block: Block, letters: usize, set: [u64; 4], l: usize) 
 {
     let sources = word_sets::common(set, word_rows::load(w, LETTER_SOURCES, l + 1));
     let mut out = word_sets::empty();
-    let mut q: usize = 0;
-    while q < 4 {
-        let more = follow_word(w, block, letters, 256 * (l + 1) + 64 * q, sources[q], out);
+    for (q, word) in sources.iter().enumerate() {
+        let more = follow_word(w, block, letters, 256 * (l + 1) + 64 * q, *word, out);
         out = more;
-        q += 1;
     }
     out
 }

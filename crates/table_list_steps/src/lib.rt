@@ -20,13 +20,11 @@ pub fn visit(w: &mut [u64], base: usize, acc: usize, from: usize, to: usize, met
     ensures set { (p j : ℕ) → p < 64 → T (in_set (set_of w.new acc result p) j) ↔ (T (in_set (set_of w.old acc met p) j) ⊎ Among w.old base from to p j) }
 {
     let mut out = met;
-    let mut k = from;
-    while k < to {
+    for k in from..to {
         let arc = listed_arc(w, base, k);
         if arc.letter < 64 {
             out = into(w, base, acc, arc.letter, arc.target, out);
         }
-        k += 1;
     }
     out
 }

@@ -54,10 +54,8 @@ pub fn number_letters(file: &[u8], c: Counts, w: &mut [u64])
     ensures numbered { LetterNumbers (letter_bytes c file.now) w.new }
 {
     fill(w, BYTE_LETTERS, 64);
-    let mut i: usize = 0;
-    while i < c.letters {
-        put16(w, BYTE_LETTERS, key_of(file[12 + i]) as usize, i);
-        i += 1;
+    for (i, letter) in file[12..12 + c.letters].iter().enumerate() {
+        put16(w, BYTE_LETTERS, usize::from(key_of(*letter)), i);
     }
 }
 
@@ -68,7 +66,7 @@ fn letter_of(w: &[u64], byte: u8) -> usize
     ensures letter { (alphabet : List ℕ) → LetterNumbers alphabet w.now → Apart (keys alphabet) → length alphabet ≤ 64 → result < 64 → letter_with alphabet byte ≡ some result }
     ensures none { (alphabet : List ℕ) → LetterNumbers alphabet w.now → Apart (keys alphabet) → length alphabet ≤ 64 → 64 ≤ result → letter_with alphabet byte ≡ none }
 {
-    get16(w, BYTE_LETTERS, key_of(byte) as usize)
+    get16(w, BYTE_LETTERS, usize::from(key_of(byte)))
 }
 
 // The live set of a word, from the set `from` on, by the listed arcs; empty where a byte is no letter. Where nothing is live any more, the
@@ -81,9 +79,8 @@ pub fn walk_listed(word: &[u8], w: &[u64], block: Block, letters: usize, from: [
         → (view block.count result ≡ live_bytes alphabet arcs block.count (view block.count from) word.now) × ε_closed_set block.count arcs result }
 {
     let mut set = from;
-    let mut i: usize = 0;
-    while i < word.len() {
-        let l = letter_of(w, word[i]);
+    for byte in word {
+        let l = letter_of(w, *byte);
         if letters <= l {
             return [0; 4];
         }
@@ -92,7 +89,6 @@ pub fn walk_listed(word: &[u8], w: &[u64], block: Block, letters: usize, from: [
             return [0; 4];
         }
         set = next;
-        i += 1;
     }
     set
 }
@@ -114,9 +110,8 @@ pub fn walk_file(
         → (view block.count result ≡ live_bytes (letter_bytes c file.now) arcs block.count (view block.count from) word.now) × ε_closed_set block.count arcs result }
 {
     let mut set = from;
-    let mut i: usize = 0;
-    while i < word.len() {
-        let l = letter_of(w, word[i]);
+    for byte in word {
+        let l = letter_of(w, *byte);
         if 64 <= l {
             return [0; 4];
         }
@@ -125,7 +120,6 @@ pub fn walk_file(
             return [0; 4];
         }
         set = next;
-        i += 1;
     }
     set
 }

@@ -7,8 +7,7 @@ use mathlib.Core.List.{List}
 use native.Mathlib.Nat.{add-zero}
 use native.Mathlib.Omega.{arith}
 use Rattle.table_operations.specs.Packed.{Fitting, act_packed, and_then, hop, hop_with, perform_packed}
-use Rattle.table_operations.specs.declared.Outcome.{Outcome}
-use Rattle.table_operations.specs.declared.Outcome.TheVariants.{Failed, Leaves}
+use Rattle.std.specs.Prelude.{Option, Some, None}
 use Rattle.format.specs.Decoding.{letter_of}
 use Rattle.format.specs.Placed.{OkOps}
 use Rattle.file_fields.proofs.Laws.{down}
@@ -58,18 +57,18 @@ module _ (file : List ℕ) (at p own : ℕ) where
         ∙ rw (down p k less, first-at file (at + 4 + 2 * k), get_or-drop (at + 4 + 2 * k) file 1 0, drop-drop 2 (at + 4 + 2 * k) file, at_next)
 
     -- it answers r
-    module _ {r : Outcome} (is : r ≡ act_packed (get_or file (at + 4 + 2 * k) 0) (get_or file (at + 4 + 2 * k + 1) 0) regs) where
-      pub Performing-failed : r ≡ Failed → perform_packed p (drop (at + 4) file) (own % 2 ^ 32) ≡ Failed
+    module _ {r : Option ℕ} (is : r ≡ act_packed (get_or file (at + 4 + 2 * k) 0) (get_or file (at + 4 + 2 * k + 1) 0) regs) where
+      pub Performing-failed : r ≡ None → perform_packed p (drop (at + 4) file) (own % 2 ^ 32) ≡ None
       Performing-failed e = step ∙ rw (← is, e)
 
-      pub Performing-more : Fitting r → (v : ℕ) → r ≡ Leaves v → Performing file at p own (k + 1) v
+      pub Performing-more : Fitting r → (v : ℕ) → r ≡ Some v → Performing file at p own (k + 1) v
       Performing-more f v e = record {
         few = omega arith;
-        fits = subst (λ (o : Outcome). Fitting o) e f;
+        fits = subst (λ (o : Option ℕ). Fitting o) e f;
         ok = ok_at.2;
         rest = step ∙ rw (← is, e);
       }
 
-  pub Performing-end : {k regs : ℕ} → p ≤ k → Performing file at p own k regs → perform_packed p (drop (at + 4) file) (own % 2 ^ 32) ≡ Leaves regs
+  pub Performing-end : {k regs : ℕ} → p ≤ k → Performing file at p own k regs → perform_packed p (drop (at + 4) file) (own % 2 ^ 32) ≡ Some regs
   unfolding perform_packed
   Performing-end {k} {regs} h s = s.rest ∙ (let e : p - k ≡ 0 = omega arith in rw e)

@@ -14,17 +14,17 @@ use Rattle.automata.specs.Lists.{Each, collect, only, prepend}
 use Rattle.automata.specs.Performing.{Move, act, along, perform}
 use Rattle.automata.specs.Unfolding.{same_configuration}
 use Rattle.table_operations.specs.Packed.{Hop, act_packed, and_then, hop, hop_with, hops, pack, pack_contents, perform_packed}
-use Rattle.table_operations.specs.declared.Outcome.{Outcome}
-use Rattle.table_operations.specs.declared.Outcome.TheVariants.{Failed, Leaves}
+use Rattle.std.specs.Prelude as code
+use Rattle.std.specs.Prelude.{Some, None}
 use Rattle.format.specs.Decoding.{arc_of, arcs_of, op_of, ops_of}
 use Rattle.format.specs.Placed.{OkArcs, OkOps}
 use Rattle.file_fields.specs.Parts.{arc_size}
 use Rattle.automata.proofs.Laws.{at_some, same_configuration-iff}
 use Rattle.table_operations.proofs.PackedWord.{Small, digit_set, pack_contents-digit, pack_contents-inj, pack_contents-word, small-set}
 
-abbrev pub outcome_of : Option (List ℕ) → Outcome
-outcome_of none = Failed
-outcome_of (some u) = Leaves (pack_contents u)
+abbrev pub outcome_of : Option (List ℕ) → code.Option ℕ
+outcome_of none = None
+outcome_of (some u) = Some (pack_contents u)
 
 abbrev pub Fine : ℕ → Option (List ℕ) → Type 0
 Fine n none = Unit {0}
@@ -38,7 +38,7 @@ act-packed n x y u e s h k = cases (eqb (x / 16) 0) refl
     inside : x % 16 < length u
     inside = rw e h
 
-    read : (t : Bool) → (cond t (Leaves (pack_contents u)) Failed ≡ outcome_of (only t u)) × Fine n (only t u)
+    read : (t : Bool) → (cond t (Some (pack_contents u)) None ≡ outcome_of (only t u)) × Fine n (only t u)
     read true = (refl, (e, s))
     read false = (refl, tt)
 

@@ -18,9 +18,7 @@ pub fn index_arcs(file: &[u8], counts: Counts, w: &mut [u64])
     ensures indexed { Indexed counts file.now w.new }
 {
     let mut at = first_arc(counts);
-    let mut i = counts.arcs;
-    while 0 < i {
-        i -= 1;
+    for i in (0..counts.arcs).rev() {
         put16(w, OFFSETS, i, at);
         at += 4 + 2 * byte(file, at + 3);
     }
@@ -34,10 +32,8 @@ pub fn link_arcs(file: &[u8], counts: Counts, w: &mut [u64])
     ensures linked { Linked counts file.now w.new }
 {
     fill(w, ARC_HEADS, 64);
-    let mut j: usize = 0;
-    while j < counts.arcs {
+    for j in 0..counts.arcs {
         let state = byte(file, get16(w, OFFSETS, j));
         push(w, ARC_HEADS, ARC_NEXTS, state, j);
-        j += 1;
     }
 }

@@ -5,10 +5,3 @@
 pub mod arcs;
 pub mod configurations;
 pub mod operations;
-
-// What operations leave of the registers' contents.
-#[derive(Clone, Copy)]
-pub enum Outcome {
-    Failed,
-    Leaves(u64),
-}

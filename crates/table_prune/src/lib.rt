@@ -72,15 +72,13 @@ fn prune_one(
 {
     let mut told = met;
     let mut end = kept;
-    let mut k = from;
-    while k < to {
+    for k in from..to {
         let arc = listed_arc(w, base, k);
         if adds(w, base, acc, told, arc) {
             told = into(w, base, acc, arc.letter, arc.target, told);
             list_arc(w, base, end, arc);
             end += 1;
         }
-        k += 1;
     }
     end
 }
@@ -102,15 +100,13 @@ pub fn prune(w: &mut [u64], block: Block, acc: usize) -> Block
         return block;
     }
     let mut kept: usize = 0;
-    let mut c: usize = 0;
-    while c < count {
+    for c in 0..count {
         let met = ahead(w, base, acc, c, kept);
         let from = first_arc(w, base, c);
         let to = end_of(w, base, count, plain, c);
         let end = prune_one(w, base, acc, from, to, kept, met);
         start_arcs(w, base, c, kept);
         kept = end;
-        c += 1;
     }
     Block {
         base,

@@ -17,13 +17,10 @@ pub fn reletter(w: &mut [u64], block: Block, new: &[u8])
     ensures { Relisted new.now w.old w.new block }
 {
     let base = block.base;
-    let plain = block.plain;
-    let mut k: usize = 0;
-    while k < plain {
+    for k in 0..block.plain {
         let arc = listed_arc(w, base, k);
         let letter = new_letter(new, arc.letter);
         let target = arc.target;
         list_arc(w, base, k, Listed { letter, target });
-        k += 1;
     }
 }

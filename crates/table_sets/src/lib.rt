@@ -14,7 +14,7 @@ use word_fields::{get16, put16};
 use word_layout::{BLOCK_ARCS, BLOCK_STARTS};
 
 // A plain arc as a block lists it, without its source, which its place says: its letter's byte and its target.
-#[derive(Clone, Copy)]
+#[derive(Clone, Copy, PartialEq, Eq, Debug)]
 pub struct Listed {
     pub letter: usize,
     pub target: usize,

@@ -12,6 +12,7 @@ use Rattle.automata.specs.Live.{PlainArc, by_letter, count, epsilon_closure, hit
 use Rattle.automata.specs.Unfolding.{accepted_bytes, configurations, live_count, live_set, plain_arcs, spelled_or}
 use Rattle.automata.specs.Words.{spelling}
 use Rattle.automata.proofs.Laws.{length-table}
+use Rattle.std.specs.Prelude.{Ok}
 use Rattle.table.specs.Membership.{judged}
 use Rattle.table.specs.declared.Membership.TheVariants.{Accepted, Rejected}
 use Rattle.table_words.specs.Words.{packed}
@@ -47,10 +48,10 @@ module _ (x : Automaton) (L : ℕ) (few : length (configurations x L) ≤ L) (s 
       go none = omega arith
       go (some w) = omega (arith, count-few (live_set x L w), live-long (length (configurations x L)) (plain_arcs x L) w)
 
-pub packed-fits : (x : Automaton) → length (configurations x 256) ≤ 256 → (s : List ℕ) → packed (judged 256 x s) < 2 ^ 64
+pub packed-fits : (x : Automaton) → length (configurations x 256) ≤ 256 → (s : List ℕ) → packed (Ok (judged 256 x s)) < 2 ^ 64
 unfolding judged
 packed-fits x few s = go (accepted_bytes x 256 s)
   where
-    go : (t : Bool) → packed (cond t (Accepted (live_count x 256 s)) (Rejected (live_count x 256 s))) < 2 ^ 64
+    go : (t : Bool) → packed (Ok (cond t (Accepted (live_count x 256 s)) (Rejected (live_count x 256 s)))) < 2 ^ 64
     go true = omega (arith, live-few x 256 few s)
     go false = omega (arith, live-few x 256 few s)

@@ -11,15 +11,15 @@ use lib.Dec.{eqb, ltb}
 use lib.ListN.{drop, get_or, length, length-append, length-map, take, take-append-drop}
 use lib.Seq.{drop_at, take_all}
 use Rattle.format.specs.Decoding.{automaton_of}
-use Rattle.format.specs.Refusals.{unless_refused}
+use Rattle.std.specs.Prelude.{Err, Ok, Result}
+use Rattle.file_fields.specs.declared.Refusal.{Refusal}
+use Rattle.format.specs.Refusals.{Refusals, refused, unless_refused}
 use Rattle.table.specs.Membership.{judged, membership_of}
 use Rattle.table.specs.Opening.{open_refusals}
 use Rattle.table.specs.declared.Membership.{Membership}
-use Rattle.table.specs.declared.Membership.TheVariants as membership
 use Rattle.table_words.specs.Promised.{FirstWords, Promised, joined}
 use Rattle.table_words.specs.Words.{answered, answers_of, before, bytes_of, judged_of, packed, words_in, words_judged}
 use Rattle.table_words.specs.declared.Judged.{Judged}
-use Rattle.table_words.specs.declared.Judged.TheVariants.{Refused}
 
 -- ---- which words there are
 module _ (separator : ℕ) where
@@ -78,7 +78,7 @@ module _ (file : List ℕ) (words : ℕ) where
   answer_at (word ∷ l) behind (suc i) h = answer_at l behind i (omega (arith, h))
 
   -- nothing is refused
-  each-judged : (bytes : List ℕ) (separator : ℕ) (lent : List ℕ) → let l = words_in separator (length lent) bytes in Promised file bytes separator words lent (answered (words_judged l) (answers_of file l words) lent) (words_judged l)
+  each-judged : (bytes : List ℕ) (separator : ℕ) (lent : List ℕ) → let l = words_in separator (length lent) bytes in Promised file bytes separator words lent (answered (Ok (words_judged l)) (answers_of file l words) lent) (Ok (words_judged l))
   unfolding words_judged answered
   each-judged bytes separator lent =
       let l = words_in separator (length lent) bytes in
@@ -96,26 +96,26 @@ module _ (file : List ℕ) (words : ℕ) where
   -- a refusal is that of every word
   module _ (answer : Judged) where
     -- what the call tells and what every word is told, by the same tests: one refusal; or the call has its answer
-    abbrev Decided : Judged → (Membership → Membership) → Type 0
-    Decided r each = ((p : ℕ × ℕ) × (r ≡ Refused p.0 p.1) × ((a : Membership) → each a ≡ membership.Refused p.0 p.1)) ⊎ (r ≡ answer)
+    abbrev Decided : Result Judged Refusal → (Result Membership Refusal → Result Membership Refusal) → Type 0
+    Decided r each = ((p : Refusal) × (r ≡ Err p) × ((a : Result Membership Refusal) → each a ≡ Err p)) ⊎ (r ≡ Ok answer)
 
-    decided : (tests : List (Bool × ℕ × ℕ)) → Decided (unless_refused Refused tests answer) (unless_refused membership.Refused tests)
+    decided : (tests : Refusals) → Decided (unless_refused refused tests (Ok answer)) (unless_refused refused tests)
     unfolding unless_refused
     decided [] = inr refl
     decided (t ∷ tests) = go t.0 (decided tests)
       where
-        go : (b : Bool) → Decided (unless_refused Refused tests answer) (unless_refused membership.Refused tests)
-            → Decided (cond b (Refused t.1 t.2) (unless_refused Refused tests answer)) (λ a. cond b (membership.Refused t.1 t.2) (unless_refused membership.Refused tests a))
-        go true later = inl ((t.1, t.2), refl, λ a. refl)
+        go : (b : Bool) → Decided (unless_refused refused tests (Ok answer)) (unless_refused refused tests)
+            → Decided (cond b (refused t.1 t.2) (unless_refused refused tests (Ok answer))) (λ a. cond b (refused t.1 t.2) (unless_refused refused tests a))
+        go true later = inl (record { reason = t.1; automaton = t.2 }, refl, λ a. refl)
         go false later = later
 
   pub words-promised : (bytes : List ℕ) (separator : ℕ) (lent : List ℕ) → let r = judged_of file bytes separator words (length lent) in
       Promised file bytes separator words lent (answered r (answers_of file (words_in separator (length lent) bytes) words) lent) r
   unfolding judged_of membership_of answered
   words-promised bytes separator lent = ⊎_elim
-      (λ o. subst kept (sym o.1) (λ word. o.2 (judged 256 (automaton_of file) word), refl))
+      (λ o. subst kept (sym o.1) (λ word. o.2 (Ok (judged 256 (automaton_of file) word)), refl))
       (λ e. subst kept (sym e) (each-judged bytes separator lent))
       (decided (words_judged (words_in separator (length lent) bytes)) (open_refusals 256 file words))
     where
-      kept : Judged → Type 0
+      kept : Result Judged Refusal → Type 0
       kept r = Promised file bytes separator words lent (answered r (answers_of file (words_in separator (length lent) bytes) words) lent) r

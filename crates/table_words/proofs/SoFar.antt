@@ -8,7 +8,8 @@ use lib.Seq.{append_snoc, drop-drop, drop-set-lt, length-take-le, take-suc-set}
 use Rattle.automata.specs.Automaton.{Automaton}
 use Rattle.table.specs.Membership.{judged}
 use Rattle.table_words.specs.Words.{answered, before, bytes_of, packed, verdicts_of, words_in, words_judged}
-use Rattle.table_words.specs.declared.Judged.TheVariants.{Words}
+use Rattle.std.specs.Prelude.{Ok}
+use Rattle.table_words.specs.declared.Judged.{Judged}
 use Rattle.table_words.proofs.WordLaws.{words_more}
 
 module _ (x : Automaton) (bytes : List ℕ) (separator : ℕ) (lent : List ℕ) where
@@ -38,7 +39,7 @@ module _ (x : Automaton) (bytes : List ℕ) (separator : ℕ) (lent : List ℕ) 
   module _ {n from : ℕ} {answers : List ℕ} (h : SoFar n from answers) where
     -- the word from `from` to `end` is the next one, and its answer is noted
     pub so_far_more : (end v : ℕ) → n < length lent → end ≡ from + before separator (drop from bytes) → end < length bytes
-        → v ≡ packed (judged 256 x (take (end - from) (drop from bytes))) → SoFar (n + 1) (end + 1) (set answers n v)
+        → v ≡ packed (Ok (judged 256 x (take (end - from) (drop from bytes)))) → SoFar (n + 1) (end + 1) (set answers n v)
     unfolding bytes_of
     so_far_more end v room e inside right = record {
       few = omega arith;
@@ -62,21 +63,24 @@ module _ (x : Automaton) (bytes : List ℕ) (separator : ℕ) (lent : List ℕ) 
         one : n + 1 ≡ suc n
         one = omega arith
 
-        noted : take n answers ++ (packed (judged 256 x (take (end - from) (drop from bytes))) ∷ verdicts_of x (rest (n + 1) (end + 1))) ≡ take (n + 1) (set answers n v) ++ verdicts_of x (rest (n + 1) (end + 1))
+        noted : take n answers ++ (packed (Ok (judged 256 x (take (end - from) (drop from bytes)))) ∷ verdicts_of x (rest (n + 1) (end + 1))) ≡ take (n + 1) (set answers n v) ++ verdicts_of x (rest (n + 1) (end + 1))
         noted = rw (one, take-suc-set answers n v (omega (arith, h.long)), append_snoc (take n answers) v (verdicts_of x (rest (suc n) (end + 1))), right)
 
         left : drop (n + 1) (set answers n v) ≡ drop (n + 1) lent
         left = drop-set-lt (n + 1) answers n v (omega arith) ∙ sym (drop-drop 1 n answers) ∙ ap (drop 1) h.kept ∙ drop-drop 1 n lent
 
+    abbrev so_many : Judged
+    so_many = record { count = n; bytes = from }
+
     -- no word is left
-    pub so_far-all : rest n from ≡ [] → Words n from ≡ words_judged all
+    pub so_far-all : rest n from ≡ [] → so_many ≡ words_judged all
     unfolding words_judged bytes_of
     so_far-all none =
         let m : n ≡ length all = omega (arith, h.many, ap length none) in
         let t : from ≡ bytes_of all = omega (arith, h.taken, ap bytes_of none) in
-        λ i. Words (m i) (t i)
+        λ i. record { count = m i; bytes = t i }
 
-    pub so_far-answered : rest n from ≡ [] → answers ≡ answered (Words n from) (verdicts_of x all) lent
+    pub so_far-answered : rest n from ≡ [] → answers ≡ answered (Ok so_many) (verdicts_of x all) lent
     unfolding answered
     so_far-answered none =
         let v : verdicts_of x all ≡ take n answers = h.given ∙ rw none (append-nil (take n answers)) in

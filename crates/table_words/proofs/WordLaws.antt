@@ -1,14 +1,17 @@
 -- WordLaws: the words that end in bytes, from one place of the bytes on: where the first of them ends, and what is left behind it.
-use mathlib.Core.Path.{◌≡◌, refl}
-use mathlib.Core.Logic.{◌≢◌}
+use mathlib.Core.Path.{◌∙◌, ◌≡◌, refl}
 use mathlib.Core.Bool.{Bool, cond, false, true}
 use mathlib.Core.List.{List, [], ◌∷◌}
 use Prim.Native.Nat.{◌+◌, ◌-◌, ◌<◌, ◌≤◌, suc, zero, zero-le, ℕ}
 use native.Mathlib.Omega.{arith}
-use borrow.Author.Tests.{eq-eqb, le-ltb, lt-ltb, ne_eqb}
-use lib.Dec.{eqb}
-use lib.ListN.{drop, drop_of_length-le, get_or, length, length-drop, take}
-use lib.Seq.{drop-cons, drop-drop}
+use borrow.Author.Tests.{le-ltb, lt-ltb}
+use lib.Dec.{eqb, ltb}
+use lib.ListN.{drop, length, length-drop, take}
+use lib.Seq.{drop-drop}
+use native.Mathlib.Decide.{dec_lt}
+use Rattle.std.specs.Prelude.{Some, None}
+use Rattle.std.specs.List.{position, position_or_len}
+use Rattle.std.proofs.lemmas.List.Recursion.{is_position_or_len}
 use Rattle.table_words.specs.Words.{before, words_in}
 
 module _ (separator : ℕ) where
@@ -22,21 +25,25 @@ module _ (separator : ℕ) where
       go true h = zero-le
       go false h = omega arith
 
-  module _ (bytes : List ℕ) (i : ℕ) where
-    -- the separator stands at the place i, or another byte, or the bytes end there
-    pub before_here : i < length bytes → get_or bytes i 0 ≡ separator → before separator (drop i bytes) ≡ 0
-    unfolding before
-    before_here h e = rw (drop-cons bytes i 0 h, eq-eqb (get_or bytes i 0) separator e)
+  -- the place of the first separator, or where the bytes end
+  before-position : (s : List ℕ) → before separator s ≡ position_or_len (λ b. eqb b separator) s
+  unfolding before
+  before-position = is_position_or_len (before separator) (λ b. eqb b separator) refl
+      (λ b s. let one : 1 + before separator s ≡ suc (before separator s) = omega arith in rw one)
 
-    pub before_on : i < length bytes → get_or bytes i 0 ≢ separator → before separator (drop i bytes) ≡ suc (before separator (drop (i + 1) bytes))
-    unfolding before
-    before_on h e =
-        let one : i + 1 ≡ suc i = omega arith in
-        rw (drop-cons bytes i 0 h, ne_eqb (get_or bytes i 0) separator e, one)
+  pub at_separator : (s : List ℕ) (i : ℕ) → position (λ b. eqb b separator) s ≡ Some i → before separator s ≡ i
+  at_separator s i e = before-position s ∙ go (ltb (position_or_len (λ b. eqb b separator) s) (length s)) e
+    where
+      go : (t : Bool) → cond t (Some (position_or_len (λ b. eqb b separator) s)) None ≡ Some i → position_or_len (λ b. eqb b separator) s ≡ i
+      go true e = cc
+      go false e = absurd (let z : ◌≡◌ {A = ℕ} 0 1 = cc in omega arith)
 
-    pub before-end : length bytes ≤ i → before separator (drop i bytes) ≡ 0
-    unfolding before
-    before-end h = rw (drop_of_length-le bytes {i = i} h)
+  pub no_separator : (s : List ℕ) → position (λ b. eqb b separator) s ≡ None → before separator s ≡ length s
+  no_separator s e = go (dec_lt (position_or_len (λ b. eqb b separator) s) (length s))
+    where
+      go : Dec (position_or_len (λ b. eqb b separator) s < length s) → before separator s ≡ length s
+      go (yes h) = absurd (let f : Some (position_or_len (λ b. eqb b separator) s) ≡ None = rw (lt-ltb _ _ h) at e in let z : ◌≡◌ {A = ℕ} 0 1 = cc in omega arith)
+      go (no h) = omega (arith, h, before-position s, before-le s)
 
   -- ---- the words from one place on
   -- there is no room for another answer

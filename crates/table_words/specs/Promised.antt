@@ -1,13 +1,12 @@
 -- Promised: what is promised of judging many words, with no algorithm in sight: which words they are, and that each has the answer that
 -- membership gives.
-use Rattle.std.specs.Prelude.{◌≡◌, ◌⊎◌, ◌<◌, ◌≤◌, ℕ, drop, get_or, length}
+use Rattle.std.specs.Prelude.{◌≡◌, ◌⊎◌, ◌<◌, ◌≤◌, ℕ, drop, get_or, length, Err, Ok, Result}
 use mathlib.Core.List.{List, Memᴰ, [], ◌++◌, ◌∷◌}
 use Rattle.automata.specs.Lists.{Each}
 use Rattle.table.specs.Membership.{membership_of}
-use Rattle.table.specs.declared.Membership.TheVariants as membership
+use Rattle.file_fields.specs.declared.Refusal.{Refusal}
 use Rattle.table_words.specs.Words.{packed}
 use Rattle.table_words.specs.declared.Judged.{Judged}
-use Rattle.table_words.specs.declared.Judged.TheVariants.{Refused, Words}
 
 -- words one behind the other, each with the separator behind it
 unfoldable pub joined : (separator : ℕ) → List (List ℕ) → List ℕ
@@ -32,6 +31,6 @@ pub record EachJudged (file bytes : List ℕ) (separator words : ℕ) (lent answ
   pub others : drop count answers ≡ drop count lent
 
 -- what is promised, by the answer: where the call is refused, every word is, with the same number and automaton, and nothing is written
-abbrev pub Promised : (file bytes : List ℕ) (separator words : ℕ) (lent answers : List ℕ) → Judged → Type 0
-Promised file bytes separator words lent answers (Words count taken) = EachJudged file bytes separator words lent answers count taken
-Promised file bytes separator words lent answers (Refused n b) = ((word : List ℕ) → membership_of file word words ≡ membership.Refused n b) × (answers ≡ lent)
+abbrev pub Promised : (file bytes : List ℕ) (separator words : ℕ) (lent answers : List ℕ) → Result Judged Refusal → Type 0
+Promised file bytes separator words lent answers (Ok j) = EachJudged file bytes separator words lent answers j.count j.bytes
+Promised file bytes separator words lent answers (Err r) = ((word : List ℕ) → membership_of file word words ≡ Err r) × (answers ≡ lent)

@@ -1,22 +1,22 @@
 // table_words: many words judged by one file, whose table is built once.
 #![tactic(auto)]
 
-ghost use Rattle.std.specs.Prelude.{◌≡◌, ◌+◌, ◌^◌, ◌<◌, ◌≤◌, length, drop};
+ghost use Rattle.std.specs.Prelude.{◌≡◌, ◌+◌, ◌^◌, ◌<◌, ◌≤◌, length, drop, Ok};
 ghost use Rattle.format.specs.Decoding.{automaton_of};
 ghost use Rattle.table.specs.Judging.{Judging};
 ghost use Rattle.table_words.specs.Words.{before, words_in, packed, verdicts_of, answers_of, words_judged, judged_of, answered};
 
-use format::Counts;
+use format::{Counts, Refusal};
 use table::judging::judge;
-use table::{Membership, Opened, prepare};
+use table::{Membership, prepare};
 use word_layout::Block;
 
-// What judging many words answers: how many words were judged, and how many bytes they take, each with the separator behind it; or the
-// number of a refusal and the automaton at fault.
-#[derive(Clone, Copy)]
-pub enum Judged {
-    Words { count: usize, bytes: usize },
-    Refused(u8, u8),
+// What judging many words answers where nothing is refused: how many words were judged, and how many bytes they take, each with the
+// separator behind it.
+#[derive(Clone, Copy, PartialEq, Eq, Debug)]
+pub struct Judged {
+    pub count: usize,
+    pub bytes: usize,
 }
 
 // Where the word ends that begins at `from`: the place of the first separator from there on, or that of the end where there is none.
@@ -25,26 +25,21 @@ fn word_end(bytes: &[u8], from: usize, separator: u8) -> usize
     requires { from ≤ length bytes.now }
     ensures { result ≡ from + before separator (drop from bytes.now) }
 {
-    let mut i = from;
-    while i < bytes.len() {
-        if bytes[i] == separator {
-            return i;
-        }
-        i += 1;
+    match bytes[from..].iter().position(|byte| *byte == separator) {
+        Some(length) => from + length,
+        None => bytes.len(),
     }
-    i
 }
 
 // An answer in one word: twice the number of live configurations, and one more where the word is accepted.
 // Cost: constant.
 fn pack(answer: Membership) -> u64
-    requires { packed answer < 2 ^ 64 }
-    ensures { result ≡ packed answer }
+    requires { packed (Ok answer) < 2 ^ 64 }
+    ensures { result ≡ packed (Ok answer) }
 {
     match answer {
         Membership::Accepted(live) => 2 * live + 1,
         Membership::Rejected(live) => 2 * live,
-        Membership::Refused(_, _) => 0,
     }
 }
 
@@ -62,24 +57,22 @@ fn judge_words(
     requires { Judging file.now c w.old block }
     ensures same { length w.new ≡ length w.old }
     ensures answer { result ≡ words_judged (words_in separator (length answers.old) bytes.now) }
-    ensures answers { answers.new ≡ answered result (verdicts_of (automaton_of file.now) (words_in separator (length answers.old) bytes.now)) answers.old }
+    ensures answers { answers.new ≡ answered (Ok result) (verdicts_of (automaton_of file.now) (words_in separator (length answers.old) bytes.now)) answers.old }
 {
-    let mut n: usize = 0;
     let mut from: usize = 0;
-    while n < answers.len() {
+    for n in 0..answers.len() {
         let end = word_end(bytes, from, separator);
         if end == bytes.len() {
-            return Judged::Words {
+            return Judged {
                 count: n,
                 bytes: from,
             };
         }
         answers[n] = pack(judge(file, c, &bytes[from..end], w, block));
-        n += 1;
         from = end + 1;
     }
-    Judged::Words {
-        count: n,
+    Judged {
+        count: answers.len(),
         bytes: from,
     }
 }
@@ -96,13 +89,19 @@ pub fn accepts_words(
     separator: u8,
     work: &mut [u64],
     answers: &mut [u64],
-) -> Judged
+) -> Result<Judged, Refusal>
     ensures same { length work.new ≡ length work.old }
     ensures answer { result ≡ judged_of file.now bytes.now separator (length work.old) (length answers.old) }
     ensures answers { answers.new ≡ answered result (answers_of file.now (words_in separator (length answers.old) bytes.now) (length work.old)) answers.old }
 {
-    match prepare(file, work) {
-        Opened::Refused(number, at_fault) => Judged::Refused(number, at_fault),
-        Opened::Open(c, block) => judge_words(file, c, bytes, separator, work, block, answers),
-    }
+    let opened = prepare(file, work)?;
+    Ok(judge_words(
+        file,
+        opened.counts,
+        bytes,
+        separator,
+        work,
+        opened.block,
+        answers,
+    ))
 }

@@ -3,7 +3,7 @@
 use mathlib.Core.Path.{◌∙◌, ◌≡◌, ap, refl, subst, sym}
 use mathlib.Core.Logic.{inl, inr}
 use mathlib.Core.List.{List, ◌++◌}
-use Prim.Native.Nat.{◌<◌, ◌≤◌, ℕ}
+use Prim.Native.Nat.{◌≤◌, ℕ}
 use native.Mathlib.Omega.{arith}
 use lib.ListN.{drop, length}
 use lib.Seq.{drop_at, take_at}
@@ -11,31 +11,33 @@ use Rattle.automata.specs.Automaton.{Automaton}
 use Rattle.automata.specs.Unfolding.{configurations, plain_arcs, unfolded}
 use Rattle.automata.proofs.Laws.{reaching_more, unfolding_language}
 use Rattle.file_fields.specs.declared.Counts.{Counts}
-use Rattle.file_fields.specs.declared.Reading.TheVariants.{Valid}
+use Rattle.std.specs.Prelude.{None, Ok, Option, Result, Some}
+use Rattle.file_fields.specs.declared.Automaton.{Automaton as Blamed}
+use Rattle.file_fields.specs.declared.Automaton.TheVariants.{First}
+use Rattle.file_fields.specs.declared.Reason.{Reason}
+use Rattle.file_fields.specs.declared.Reason.TheVariants.{OutputTooShort, TooLittleMemoryLent, TooManyConfigurations, TooManyPlainArcs}
+use Rattle.file_fields.specs.declared.Refusal.{Refusal}
 use Rattle.format.specs.Decoding.{automaton_of}
 use Rattle.format.specs.Encoding.{bytes_of, sizes}
-use Rattle.file_fields.specs.Parts.{number_of}
+use Rattle.file_fields.specs.Parts.{automaton_number, number_of}
 use Rattle.format.specs.Reading.{reading_of}
-use Rattle.format.specs.Refusals.{FirstHolds, fault_of}
-use Rattle.file_laws.proofs.Laws.{Decide, NoneHolds, Outcome, at_least, fault_decided, first-exactly, first_some, less-decided, no_fault, none_first, reach-decided, refused-or_not, round_trip, valid-fits}
-use Rattle.file_writing.specs.declared.Written.{Written}
-use Rattle.file_writing.specs.declared.Written.TheVariants.{Bytes, Refused}
+use Rattle.format.specs.Refusals.{FirstHolds, fault_of, refused as refusal, told_number}
+use Rattle.file_laws.proofs.Laws.{Decide, NoneHolds, Outcome, at_least, fault_decided, first-exactly, first_some, less-decided, no_fault, none_first, number-above, reach-decided, refused-or_not, round_trip, valid-fits}
 use Rattle.file_writing.specs.Answers.{output_of, told}
-use Rattle.file_writing.proofs.Laws.{refusal_sizeless}
 use Rattle.unfold.specs.Promised.{Answered, Promised, Unfolds, conditions}
 use Rattle.unfold.specs.Unfolding.{refusals, unfolding_of}
 use Rattle.unfold.proofs.UnfoldedTwice.{same-many, same-plain, unfolded-again}
 use Rattle.unfold.proofs.UnfoldedFits.{unfolded-fits}
 
 -- ---- the bytes written
-module _ (file : List ℕ) (c : Counts) (valid : reading_of file ≡ Valid c) (few : length (configurations (automaton_of file) 256) ≤ 256) (few_arcs : length (plain_arcs (automaton_of file) 256) ≤ 2048) where
+module _ (file : List ℕ) (c : Counts) (valid : reading_of file ≡ Ok c) (few : length (configurations (automaton_of file) 256) ≤ 256) (few_arcs : length (plain_arcs (automaton_of file) 256) ≤ 2048) where
   abbrev x : Automaton
   x = automaton_of file
 
   abbrev result : List ℕ
   result = bytes_of (unfolded x 256)
 
-  back : (reading_of result ≡ Valid (sizes (unfolded x 256))) × (automaton_of result ≡ unfolded x 256)
+  back : (reading_of result ≡ Ok (sizes (unfolded x 256))) × (automaton_of result ≡ unfolded x 256)
   back = round_trip (unfolded x 256) (unfolded-fits x (valid-fits file c valid) (omega arith) few few_arcs)
 
   same_bytes : bytes_of (unfolded (automaton_of result) 256) ≡ result
@@ -48,7 +50,7 @@ module _ (file : List ℕ) (c : Counts) (valid : reading_of file ≡ Valid c) (f
       let s = ap length same_bytes in
       record {
         enough = h;
-        valid = ap number_of back.0;
+        valid = ap told_number back.0;
         few = λ q. omega (arith, (reaching_more (automaton_of result) 256).1 q);
         few_arcs = omega arith;
         room = omega arith;
@@ -57,7 +59,7 @@ module _ (file : List ℕ) (c : Counts) (valid : reading_of file ≡ Valid c) (f
   unfolds : Unfolds file result
   unfolding unfolded
   unfolds = record {
-    valid = ap number_of back.0;
+    valid = ap told_number back.0;
     automaton = back.1;
     one_register = ap (λ (y : Automaton). y.registers) back.1;
     one_symbol = ap (λ (y : Automaton). y.symbols) back.1;
@@ -80,12 +82,12 @@ module _ (file : List ℕ) (words : ℕ) (old : List ℕ) where
   refusals-decide : Decide (refusals 256 2048 file words (length old)) cs
   unfolding refusals
   refusals-decide = (
-    less-decided words 8192 24 0 (omega arith),
+    less-decided words 8192 TooLittleMemoryLent None,
     (
-      fault_decided file 1,
+      fault_decided file (Some First),
       (
-        reach-decided X 256 21 1 (omega arith),
-        (less-decided 2048 (length (plain_arcs X 256)) 22 1 (omega arith), (less-decided (length old) (length written) 25 0 (omega arith), tt)),
+        reach-decided X 256 TooManyConfigurations (Some First),
+        (less-decided 2048 (length (plain_arcs X 256)) TooManyPlainArcs (Some First), (less-decided (length old) (length written) OutputTooShort None, tt)),
       ),
     ),
   )
@@ -105,18 +107,18 @@ module _ (file : List ℕ) (words : ℕ) (old : List ℕ) where
         room = at_least (length old) (length written) h.1.1.1.1.0;
       }
 
-  refused : (n b : ℕ) → 0 < n → FirstHolds cs n b → Promised file words old old (told (Refused n b))
-  refused n b pos f = record {
-    size = λ z. absurd (omega arith);
-    written = λ z. absurd (omega arith);
-    behind = λ z. absurd (omega arith);
+  refused : (why : Reason) (whose : Option Blamed) → FirstHolds cs (number_of why) (automaton_number whose) → Promised file words old old (told (refusal why whose))
+  refused why whose f = record {
+    size = λ z. absurd (omega (arith, number-above why, z));
+    written = λ z. absurd (omega (arith, number-above why, z));
+    behind = λ z. absurd (omega (arith, number-above why, z));
     untouched = λ _. refl;
-    sizeless = λ _. refusal_sizeless n b;
-    none = (λ z. absurd (omega arith), λ a. absurd (first_some cs n b pos f (none_of a)));
+    sizeless = λ _. refl;
+    none = (λ z. absurd (omega (arith, number-above why, z)), λ a. absurd (first_some cs (number_of why) (automaton_number whose) (number-above why) f (none_of a)));
     refuses = first-exactly cs f;
   }
 
-  answered : Answered file words (length old) → Promised file words old (written ++ drop (length written) old) (told (Bytes (length written)))
+  answered : Answered file words (length old) → Promised file words old (written ++ drop (length written) old) (told (Ok (length written)))
   answered a = record {
     size = λ _. refl;
     written = λ _. rw (take_at written (drop (length written) old) (length written) refl) (unfolds file v.0 v.1 few a.few_arcs);
@@ -127,20 +129,20 @@ module _ (file : List ℕ) (words : ℕ) (old : List ℕ) where
     refuses = first-exactly cs (none_first cs (none_of a));
   }
     where
-      v : (c : Counts) × (reading_of file ≡ Valid c)
+      v : (c : Counts) × (reading_of file ≡ Ok c)
       v = no_fault file a.valid
 
       few : length (configurations X 256) ≤ 256
       few = at_least 256 (length (configurations X 256)) (λ h. a.few ((reaching_more X 256).0 h))
 
-  abbrev Right : Written → Type 0
+  abbrev Right : Result ℕ Refusal → Type 0
   Right r = Promised file words old (output_of r written old) (told r)
 
   -- THE PROMISE of unfolding.
   pub unfolding_promised : let r = unfolding_of file words (length old) in Promised file words old (output_of r (bytes_of (unfolded (automaton_of file) 256)) old) (told r)
   unfolding unfolding_of
-  unfolding_promised = either (refused-or_not Refused (Bytes (length written)) (refusals 256 2048 file words (length old)) cs refusals-decide)
+  unfolding_promised = either (refused-or_not refusal (Ok (length written)) (refusals 256 2048 file words (length old)) cs refusals-decide)
     where
-      either : Outcome Refused (Bytes (length written)) cs (unfolding_of file words (length old)) → Right (unfolding_of file words (length old))
+      either : Outcome refusal (Ok (length written)) cs (unfolding_of file words (length old)) → Right (unfolding_of file words (length old))
       either (inl h) = subst Right (sym h.1) (answered (answered-of h.0))
-      either (inr h) = subst Right (sym h.4) (refused h.0 h.1 h.2 h.3)
+      either (inr h) = subst Right (sym h.3) (refused h.0 h.1 h.2)

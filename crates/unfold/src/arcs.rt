@@ -24,8 +24,7 @@ fn write_some(
     ensures { Appended at (arcs_bytes (map as_arc (plains_between w.now block source from to))) out.old out.new result }
 {
     let mut next = at;
-    let mut i = from;
-    while i < to {
+    for i in from..to {
         let arc = plain_arc(w, block, i);
         let f = Fields {
             source,
@@ -33,7 +32,6 @@ fn write_some(
             target: arc.target,
         };
         next = write_plain_arc(out, next, f);
-        i += 1;
     }
     next
 }
@@ -44,12 +42,10 @@ pub fn write_arcs(out: &mut [u8], at: usize, w: &[u64], block: Block) -> usize
     ensures { Appended at (arcs_bytes (map as_arc (plains_of_many w.now block 0 block.count))) out.old out.new result }
 {
     let mut next = at;
-    let mut s: usize = 0;
-    while s < block.count {
+    for s in 0..block.count {
         let from = plain_start(w, block, s);
         let to = plain_end(w, block, s);
         next = write_some(out, next, w, block, s, from, to);
-        s += 1;
     }
     next
 }

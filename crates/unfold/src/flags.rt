@@ -10,7 +10,7 @@ use file_writing::parts::write_byte;
 fn flag_of(is_final: bool) -> u8
     ensures { result ≡ flag_byte is_final }
 {
-    if is_final { 1 } else { 0 }
+    u8::from(is_final)
 }
 
 // A flag for each of n states: 01 for those in the set, else 00. Cost: n.
@@ -19,11 +19,9 @@ pub fn write_flags(out: &mut [u8], at: usize, finals: [u64; 4], n: usize) -> usi
     ensures { Appended at (map flag_byte (view n finals)) out.old out.new result }
 {
     let mut next = at;
-    let mut i: usize = 0;
-    while i < n {
+    for i in 0..n {
         let flag = flag_of(word_sets::has(finals, i));
         next = write_byte(out, next, flag);
-        i += 1;
     }
     next
 }

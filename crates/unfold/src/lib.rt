@@ -10,9 +10,9 @@ ghost use Rattle.format.specs.Encoding.{bytes_of};
 ghost use Rattle.file_writing.specs.Answers.{output_of};
 ghost use Rattle.unfold.specs.Unfolding.{unfolding_of};
 
-use file_writing::Written;
+use format::Refusal;
 use result::write_result;
-use table::{Opened, open_file};
+use table::open_file;
 
 mod arcs;
 mod flags;
@@ -28,13 +28,11 @@ mod result;
 // Cost: b + k * o steps, where b is the number of bytes of the file, o that of its arcs and operations and k that of its
 // configurations, 256 at most; an arc that passes costs besides a look into the table of configurations. Then one step for each byte
 // written. Nothing is allocated.
-pub fn unfold(file: &[u8], work: &mut [u64], out: &mut [u8]) -> Written
+pub fn unfold(file: &[u8], work: &mut [u64], out: &mut [u8]) -> Result<usize, Refusal>
     ensures same { length work.new ≡ length work.old }
     ensures answer { result ≡ unfolding_of file.now (length work.old) (length out.old) }
     ensures output { out.new ≡ output_of result (bytes_of (unfolded (automaton_of file.now) 256)) out.old }
 {
-    match open_file(file, work) {
-        Opened::Refused(number, at_fault) => Written::Refused(number, at_fault),
-        Opened::Open(c, block) => write_result(out, file, c, work, block),
-    }
+    let opened = open_file(file, work)?;
+    write_result(out, file, opened.counts, work, opened.block)
 }

@@ -10,10 +10,9 @@ ghost use Rattle.unfold.specs.Unfolding.{result_of};
 
 use super::arcs::write_arcs;
 use super::flags::write_flags;
-use file_writing::Written;
 use file_writing::front::write_front;
-use format::Counts;
 use format::fields::flags_at;
+use format::{Automaton, Counts, Reason, Refusal};
 use table::finals::final_configurations;
 use word_layout::Block;
 
@@ -39,18 +38,24 @@ fn write_file(out: &mut [u8], file: &[u8], c: Counts, w: &[u64], block: Block) -
 
 // 22 where there are more than 2,048 plain arcs, 25 where the output is shorter than the result; else the file is written, and its
 // length answered. Nothing is written before both are decided. Cost: the bytes written.
-pub fn write_result(out: &mut [u8], file: &[u8], c: Counts, w: &[u64], block: Block) -> Written
+pub fn write_result(
+    out: &mut [u8],
+    file: &[u8],
+    c: Counts,
+    w: &[u64],
+    block: Block,
+) -> Result<usize, Refusal>
     requires { Holds file.now c w.now block }
     ensures answer { result ≡ result_of 256 2048 (automaton_of file.now) (length out.old) }
     ensures output { out.new ≡ output_of result (bytes_of (unfolded (automaton_of file.now) 256)) out.old }
 {
     if 2048 < block.plain {
-        return Written::Refused(22, 1);
+        return Err(Reason::TooManyPlainArcs.of(Automaton::First));
     }
     let size = 12 + c.letters + block.count + 6 * block.plain;
     if out.len() < size {
-        return Written::Refused(25, 0);
+        return Err(Reason::OutputTooShort.of_call());
     }
     write_file(out, file, c, w, block);
-    Written::Bytes(size)
+    Ok(size)
 }

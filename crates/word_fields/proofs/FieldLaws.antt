@@ -3,7 +3,7 @@ use mathlib.Core.Path.{◌≡◌, refl, sym, ap, ap₂, ◌∙◌}
 use mathlib.Core.Bool.{cond}
 use mathlib.Core.Logic.{◌≢◌}
 use mathlib.Core.List.{List}
-use Prim.Native.Nat.{ℕ, zero, suc, ◌+◌, ◌-◌, ◌*◌, ◌/◌, ◌%◌, ◌^◌, ◌≤◌, ◌<◌}
+use Prim.Native.Nat.{ℕ, zero, suc, ◌+◌, ◌-◌, ◌*◌, ◌/◌, ◌%◌, ◌^◌, ◌<◌}
 use native.Mathlib.Nat.{mul_assoc, zero-div}
 use native.Mathlib.Decide.{ℕ_discrete}
 use native.Mathlib.Omega.{arith}
@@ -13,9 +13,7 @@ use lib.ListN.{length, get_or, set}
 use lib.Pow.{pow-add, shr-shr, shl_exact}
 use lib.Bits.{bit_and, bit_or, and_zero_r, or_zero_r, and_mask, and_shr, and_mod, or_shr, or_mod}
 use lib.Seq.{get_or-set_same, get_or-set_other}
-use Rattle.word_fields.specs.Frame.{Kept}
 use Rattle.word_fields.specs.Fields.{field}
-use Rattle.word_fields.proofs.FrameLaws.{kept_same, kept_then, kept-wider, kept_set}
 
 -- ---- digit q of x, and x with v for it
 
@@ -124,7 +122,7 @@ put-field w base k v h g j = go (ℕ_discrete (j / 4) (k / 4)) (ℕ_discrete j k
         rw (ne_eqb j k (λ p. n (omega arith)))
         (ap (λ (x : ℕ). digit_of x (j % 4)) (get_or-set_other w (base + k / 4) (base + j / 4) (put_of (get_or w (base + k / 4) 0) (k % 4) v) 0 (λ p. n (omega arith))))
 
--- ---- filling: the first i of the n words are all ones
+-- ---- a word of ones alone
 
 abbrev pub all_ones : ℕ
 all_ones = 0xFFFF_FFFF_FFFF_FFFF
@@ -132,25 +130,7 @@ all_ones = 0xFFFF_FFFF_FFFF_FFFF
 all_ones_lem : (q : ℕ) → q < 4 → digit_of all_ones q ≡ 65535
 all_ones_lem = each (λ q. digit_of all_ones q ≡ 65535) refl refl refl refl
 
-pub record Filled (base n i : ℕ) (w₀ w : List ℕ) : Type 0 where
-  pub few : i ≤ n
-  pub kept : Kept base (base + n) w₀ w
-  pub done : (j : ℕ) → j < i → get_or w (base + j) 0 ≡ all_ones
-
-pub Filled-start : (base n : ℕ) (w : List ℕ) → Filled base n 0 w w
-Filled-start base n w = record { few = omega arith; kept = kept_same base (base + n) w; done = λ j h. absurd (omega arith) }
-
-pub filled_more : {base n i : ℕ} {w₀ w : List ℕ} → i < n → base + n ≤ length w₀ → Filled base n i w₀ w → Filled base n (i + 1) w₀ (set w (base + i) all_ones)
-filled_more {base} {n} {i} {w₀} {w} h l f = record {
-  few = omega arith;
-  kept = kept_then f.kept (kept-wider (omega arith) (omega arith) (kept_set w (base + i) all_ones));
-  done = λ j g. go j g (ℕ_discrete j i);
-}
-  where
-    go : (j : ℕ) → j < i + 1 → Dec (j ≡ i) → get_or (set w (base + i) all_ones) (base + j) 0 ≡ all_ones
-    go j g (yes e) = rw e (get_or-set_same w (base + i) all_ones 0 (omega (arith, f.kept.long)))
-    go j g (no n) = get_or-set_other w (base + i) (base + j) all_ones 0 (λ p. n (omega arith)) ∙ f.done j (omega arith)
-
-pub Filled-end : {base n i : ℕ} {w₀ w : List ℕ} → n ≤ i → Filled base n i w₀ w → (k : ℕ) → k < 4 * n → field w base k ≡ 65535
+-- every field of it is 65535
+pub field-ones : (w : List ℕ) (base k : ℕ) → get_or w (base + k / 4) 0 ≡ all_ones → field w base k ≡ 65535
 unfolding field
-Filled-end h f k g = rw (f.done (k / 4) (omega arith)) (all_ones_lem (k % 4) (omega arith))
+field-ones w base k e = rw e (all_ones_lem (k % 4) (omega arith))

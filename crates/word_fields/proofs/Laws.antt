@@ -11,6 +11,6 @@ pub use Rattle.word_fields.proofs.ChainLaws.{chain-kept, chain-start, last-is}
 unfoldable pub use Rattle.word_fields.proofs.Lookup.{chosen}
 pub use Rattle.word_fields.proofs.Lookup.{OnChain, chosen-off, chosen_on, off_chain, on_chain}
 -- a loop that looks for a hit along a chain: the invariant Looked, with the measure (g + 1) % 65536
-pub use Rattle.word_fields.proofs.Lookup.{Looked, found-hit, Looked-end, Looked-more, Looked-start}
+pub use Rattle.word_fields.proofs.Lookup.{Looked, found-hit, found-none, Looked-end, Looked-more, Looked-start}
 -- what is found is the number that an exploration gives
 pub use Rattle.word_fields.proofs.Numbers.{word_number}

@@ -63,6 +63,12 @@ pub record Looked (key : ℕ → ℕ) (s : ℕ) (Hit : ℕ → Type 0) (n g : �
   pub here : g ≡ last key s upto
   pub gone : (i : ℕ) → upto ≤ i → i < n → ¬ Hit i
 
+pub found-hit : {Hit : ℕ → Type 0} {n g : ℕ} → g < n → Hit g → Found Hit n g
+found-hit h d = record { few = omega arith; hit = λ l. d; miss = λ p. absurd (omega arith) }
+
+pub found-none : {Hit : ℕ → Type 0} {n : ℕ} → ((i : ℕ) → i < n → ¬ Hit i) → Found Hit n n
+found-none f = record { few = omega arith; hit = λ l. absurd (omega arith); miss = λ p. f }
+
 -- all that is asked of what is looked for: it has the key
 module _ {key : ℕ → ℕ} {w : List ℕ} {heads nexts slots n s : ℕ} {Hit : ℕ → Type 0} (c : Chain key w heads nexts slots n) (f : n ≤ no_entry) (same : (i : ℕ) → Hit i → key i ≡ s) where
   pub Looked-start : {g : ℕ} → s < slots → g ≡ field w heads s → Looked key s Hit n g
@@ -82,12 +88,12 @@ module _ {key : ℕ → ℕ} {w : List ℕ} {heads nexts slots n s : ℕ} {Hit :
       gone o i l m (no u) (no v) d = k.gone i (omega arith) m d
 
   -- at the end of the chain there is no hit
-  pub Looked-end : {g : ℕ} → n ≤ g → Looked key s Hit n g → Found Hit n n
-  Looked-end {g} h k = record { few = omega arith; hit = λ l. absurd (omega arith); miss = λ p i l. none i l (dec_lt i k.upto) }
+  pub Looked-none : {g : ℕ} → n ≤ g → Looked key s Hit n g → (i : ℕ) → i < n → ¬ Hit i
+  Looked-none {g} h k i l = go (dec_lt i k.upto)
     where
-      none : (i : ℕ) → i < n → Dec (i < k.upto) → ¬ Hit i
-      none i l (yes v) d = off_chain key s k.few k.here h i v (same i d)
-      none i l (no v) d = k.gone i (omega arith) l d
+      go : Dec (i < k.upto) → ¬ Hit i
+      go (yes v) d = off_chain key s k.few k.here h i v (same i d)
+      go (no v) d = k.gone i (omega arith) l d
 
-pub found-hit : {Hit : ℕ → Type 0} {n g : ℕ} → g < n → Hit g → Found Hit n g
-found-hit h d = record { few = omega arith; hit = λ l. d; miss = λ p. absurd (omega arith) }
+  pub Looked-end : {g : ℕ} → n ≤ g → Looked key s Hit n g → Found Hit n n
+  Looked-end h k = found-none (Looked-none h k)

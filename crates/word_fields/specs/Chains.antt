@@ -1,6 +1,6 @@
 -- Chains: entries 0, 1, 2 .. with keys, found again by their key. For each key a field has its last entry (the head of its chain),
 -- and for each entry a field has the entry before it with the same key (the next one of the chain).
-use Rattle.std.specs.Prelude.{◌≡◌, cond, List, ℕ, zero, suc, ◌+◌, ◌/◌, ◌%◌, ◌≤◌, ◌<◌, eqb, length, get_or}
+use Rattle.std.specs.Prelude.{◌≡◌, cond, List, ℕ, zero, suc, ◌+◌, ◌/◌, ◌%◌, ◌≤◌, ◌<◌, eqb, length, get_or, Option, MatchOption}
 use Rattle.word_fields.specs.Fields.{field}
 
 -- what stands in a field for no entry
@@ -22,6 +22,10 @@ pub record Found (Hit : ℕ → Type 0) (n r : ℕ) : Type 0 where
   pub few : r ≤ n
   pub hit : r < n → Hit r
   pub miss : r ≡ n → (i : ℕ) → i < n → ¬ Hit i
+
+-- the answer is the place of one of the first n that are looked for, or none where there is none
+abbrev pub FoundAt : (ℕ → Type 0) → ℕ → Option ℕ → Type 0
+FoundAt Hit n r = MatchOption r ((i : ℕ) → i < n → ¬ Hit i) (λ g. (g < n) × Hit g)
 
 -- ---- a table of words
 

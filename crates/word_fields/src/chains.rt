@@ -2,7 +2,7 @@
 ghost use Rattle.std.specs.Prelude.{◌≡◌, ℕ, ◌+◌, ◌/◌, ◌<◌, length};
 ghost use Rattle.word_fields.specs.Frame.{Kept, Beside};
 ghost use Rattle.word_fields.specs.Fields.{Apart};
-ghost use Rattle.word_fields.specs.Chains.{Chain, Found, slot, WordChain, WordAt, Room};
+ghost use Rattle.word_fields.specs.Chains.{Chain, FoundAt, slot, WordChain, WordAt, Room};
 
 use super::{get16, put16};
 
@@ -26,20 +26,27 @@ fn slot_of(x: u64) -> usize
     (x % 509) as usize
 }
 
-// The place of x among the first n words from `table` on, or n where it is not there: along the chain of its key.
+// The place of x among the first n words from `table` on, where it is there: along the chain of its key.
 // Cost: as many steps as words have the key of x; n at most.
-pub fn find_word(w: &[u64], table: usize, heads: usize, nexts: usize, n: usize, x: u64) -> usize
+pub fn find_word(
+    w: &[u64],
+    table: usize,
+    heads: usize,
+    nexts: usize,
+    n: usize,
+    x: u64,
+) -> Option<usize>
     requires { Room w.now table heads nexts n × WordChain w.now table heads nexts n }
-    ensures { Found (WordAt w.now table x) n result }
+    ensures { FoundAt (WordAt w.now table x) n result }
 {
     let mut g = get16(w, heads, slot_of(x));
     while g < n {
         if w[table + g] == x {
-            return g;
+            return Some(g);
         }
         g = get16(w, nexts, g);
     }
-    n
+    None
 }
 
 // x becomes word n of the table, and joins the chain of its key.

@@ -38,9 +38,5 @@ pub fn fill(w: &mut [u64], base: usize, n: usize)
     ensures kept { Kept base (base + n) w.old w.new }
     ensures set { (k : ℕ) → k < 4 * n → field w.new base k ≡ 65535 }
 {
-    let mut i: usize = 0;
-    while i < n {
-        w[base + i] = 0xFFFF_FFFF_FFFF_FFFF;
-        i += 1;
-    }
+    w[base..base + n].fill(0xFFFF_FFFF_FFFF_FFFF);
 }

@@ -2,7 +2,7 @@
 #![tactic(auto)]
 
 // The block of an automaton: the word that it starts at, and how many configurations and plain arcs the automaton has.
-#[derive(Clone, Copy)]
+#[derive(Clone, Copy, PartialEq, Eq, Debug)]
 pub struct Block {
     pub base: usize,
     pub count: usize,
@@ -10,7 +10,7 @@ pub struct Block {
 }
 
 // A table of live sets: the word that its rows start at, how many sets a row has, one or two, and the word that its index starts at.
-#[derive(Clone, Copy)]
+#[derive(Clone, Copy, PartialEq, Eq, Debug)]
 pub struct SetTable {
     pub rows: usize,
     pub sets: usize,

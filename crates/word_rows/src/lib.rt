@@ -7,7 +7,7 @@ ghost use Rattle.word_sets.specs.Sets.{in_set};
 ghost use Rattle.word_rows.specs.Rows.{row, related, Link, Closure};
 
 use word_sets::places::{mask_of, word_of};
-use word_sets::{common, empty, next_live, same, union, with};
+use word_sets::{common, empty, next_live, union, with};
 
 // Row i.
 // Cost: constant.
@@ -53,7 +53,7 @@ pub fn add(w: &mut [u64], base: usize, i: usize, k: usize)
     w[at] = w[at] | mask_of(k);
 }
 
-// What k is related to, each row that has k is now related to as well. Row k is read once: it does not change.
+// What k is related to, each row that has k is related to from then on as well. Row k is read once: it does not change.
 // Cost: one word of n rows, and four of those that have k.
 pub fn through(w: &mut [u64], base: usize, n: usize, k: usize)
     requires { (n ≤ 256) × ((k < n) × (base + 4 * n ≤ length w.old)) }
@@ -61,12 +61,10 @@ pub fn through(w: &mut [u64], base: usize, n: usize, k: usize)
     ensures set { (i j : ℕ) → i < n → related w.new base i j ≡ (related w.old base i j || (related w.old base i k && related w.old base k j)) }
 {
     let by = load(w, base, k);
-    let mut i: usize = 0;
-    while i < n {
+    for i in 0..n {
         if holds(w, base, i, k) {
             store(w, base, i, union(load(w, base, i), by));
         }
-        i += 1;
     }
 }
 
@@ -78,14 +76,12 @@ fn held_twice(w: &[u64], base: usize, n: usize) -> [u64; 4]
 {
     let mut once = empty();
     let mut twice = empty();
-    let mut i: usize = 0;
-    while i < n {
+    for i in 0..n {
         let set = load(w, base, i);
         let again = union(twice, common(once, set));
         twice = again;
         let all = union(once, set);
         once = all;
-        i += 1;
     }
     twice
 }
@@ -101,7 +97,8 @@ pub fn close_rows(w: &mut [u64], base: usize, n: usize)
     let inner = held_twice(w, base, n);
     let mut k = next_live(inner, 0);
     while k < n {
-        if !same(load(w, base, k), with(empty(), k)) {
+        let alone = load(w, base, k) == with(empty(), k);
+        if !alone {
             through(w, base, n, k);
         }
         k = next_live(inner, k + 1);

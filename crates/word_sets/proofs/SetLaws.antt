@@ -9,8 +9,8 @@ use native.Mathlib.Omega.{arith}
 use borrow.Author.Tests.{eq-eqb, ne_eqb}
 use lib.Dec.{T, eqb, eqb→eq, not_T, T_not, lit<}
 use lib.ListN.{length, get_or, set, get_or-eq_default}
-use lib.Seq.{get_or-set_same, get_or-set_other, ext_get_or}
-use lib.Bits.{bit_and, bit_or, bit_xor, or_lt, and_lt}
+use lib.Seq.{get_or-set_same, get_or-set_other}
+use lib.Bits.{bit_and, bit_or, or_lt, and_lt}
 use lib.Count.{count_trailing_zeros}
 use mir.Facts.{and_yes, yes_and, or_yes}
 use mir.Syntax.{w64}
@@ -20,7 +20,7 @@ use denote.Array.{Array, each}
 use denote.Shadow.{shadow}
 use denote.Laws.{Is}
 use Rattle.word_sets.specs.Sets.{bit, in_set}
-use Rattle.word_sets.proofs.Bits.{has-digit, with_digit, bit-or, bit-and, bit-zero, trailing, or_is_zero, xor_is_zero}
+use Rattle.word_sets.proofs.Bits.{has-digit, with_digit, bit-or, bit-and, bit-zero, trailing, or_is_zero}
 
 -- what every value of type [u64; 4] is
 pub record Four (s : List ℕ) : Type 0 where
@@ -139,16 +139,6 @@ or_to-bit f (suc n) i t = ⊎_elim (λ u. or_to-bit f n i u) (λ u. (suc n, u)) 
 or_to-lt : (f : ℕ → ℕ) (n : ℕ) → ((q : ℕ) → f q < 2 ^ 64) → or_to f n < 2 ^ 64
 or_to-lt f zero h = h 0
 or_to-lt f (suc n) h = or_lt 64 (or_to f n) (f (suc n)) (or_to-lt f n h) (h (suc n))
-
--- no digit differs
-pub same_set_lem : (a b : List ℕ) → length a ≡ 4 → length b ≡ 4 → T (eqb (or_to (λ q. bit_xor (get_or a q 0) (get_or b q 0)) 3) 0) ↔ (a ≡ b)
-same_set_lem a b la lb = (
-  λ t. ext_get_or 0 a b (la ∙ sym lb) (λ i h. (xor_is_zero (get_or a i 0) (get_or b i 0)).0 (or_to-zero f 3 (eqb→eq (or_to f 3) 0 t) i (omega arith))),
-  λ e. rw (zero-or_to f 3 (λ q h. (xor_is_zero (get_or a q 0) (get_or b q 0)).1 (ap (λ (s : List ℕ). get_or s q 0) e))) tt,
-)
-  where
-    f : ℕ → ℕ
-    f q = bit_xor (get_or a q 0) (get_or b q 0)
 
 -- no word has a digit 1
 pub none-set : (s : List ℕ) → Four s → T (eqb (or_to (λ q. get_or s q 0) 3) 0) ↔ ((j : ℕ) → ¬ T (in_set s j))

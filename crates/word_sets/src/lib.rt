@@ -75,7 +75,7 @@ pub fn is_empty(set: [u64; 4]) -> bool
 pub fn same(a: [u64; 4], b: [u64; 4]) -> bool
     ensures { T result ↔ (a ≡ b) }
 {
-    (a[0] ^ b[0]) | (a[1] ^ b[1]) | (a[2] ^ b[2]) | (a[3] ^ b[3]) == 0
+    a == b
 }
 
 // Are all members of a in b?
@@ -83,7 +83,7 @@ pub fn same(a: [u64; 4], b: [u64; 4]) -> bool
 pub fn inside(a: [u64; 4], b: [u64; 4]) -> bool
     ensures { T result ↔ ((j : ℕ) → T (in_set a j) → T (in_set b j)) }
 {
-    same(union(a, b), b)
+    union(a, b) == b
 }
 
 // How many members it has.
@@ -91,30 +91,26 @@ pub fn inside(a: [u64; 4], b: [u64; 4]) -> bool
 pub fn size(set: [u64; 4]) -> u32
     ensures { result ≡ count (view 256 set) }
 {
-    u64::count_ones(set[0])
-        + u64::count_ones(set[1])
-        + u64::count_ones(set[2])
-        + u64::count_ones(set[3])
+    set[0].count_ones() + set[1].count_ones() + set[2].count_ones() + set[3].count_ones()
 }
 
 // The least member from c on, or 256 where there is none. The words are gone through from the first, so that no index depends on c
 // once the loop is unrolled.
 // Cost: four words.
+// kept: docs/PROMISES.md names it, and its clause `Next` has 256 where there is none.
 pub fn next_live(set: [u64; 4], c: usize) -> usize
     requires { c ≤ 256 }
     ensures { Next set c result }
 {
     let mut at = c;
-    let mut q: usize = 0;
-    while q < 4 {
+    for (q, word) in set.iter().enumerate() {
         if at < 64 * q + 64 {
-            let x = set[q] >> digit_of(at);
+            let x = *word >> digit_of(at);
             if x != 0 {
-                return at + u64::trailing_zeros(x) as usize;
+                return at + x.trailing_zeros() as usize;
             }
             at = 64 * q + 64;
         }
-        q += 1;
     }
     at
 }

@@ -36,7 +36,7 @@ pub fn lowest(x: u64) -> usize
     requires { 0 < x }
     ensures { (result < 64) × T (bit x result) × ((j : ℕ) → j < result → ¬ T (bit x j)) }
 {
-    u64::trailing_zeros(x) as usize
+    x.trailing_zeros() as usize
 }
 
 // The word without its lowest digit 1, which stands in the place k.

@@ -11,4 +11,4 @@ pub returns-in_default : goal.returns-in_default
 returns-in_default c = ap single (sym c.in_default.is ∙ c.letter_in.ensures) ∙ sym (at_other c.args.letters.now c.args.text.now c.args.i c.if-text-i-eq91.false)
 
 pub returns : goal.returns
-returns c = ap single (sym c.in-At.is ∙ c.letter_in.ensures) ∙ sym (at_other c.args.letters.now c.args.text.now c.args.i c.if-text-i-eq91.false)
+returns c = ap single (sym c.in-Some.is ∙ c.letter_in.ensures) ∙ sym (at_other c.args.letters.now c.args.text.now c.args.i c.if-text-i-eq91.false)

@@ -6,7 +6,7 @@ use Prim.Native.Nat.{◌-◌, ◌≤◌, ℕ}
 use native.Mathlib.Omega.{arith}
 use lib.ListN.{length, take}
 use Rattle.automata.specs.Words.{same_letters}
-use Rattle.file_fields.specs.declared.Reading.TheVariants.{Valid}
+use Rattle.std.specs.Prelude.{Ok}
 use Rattle.format.specs.Decoding.{automaton_of}
 use Rattle.format.specs.Reading.{reading_of}
 use Rattle.file_laws.proofs.Laws.{valid-letters}
@@ -20,7 +20,7 @@ use Rattle.compare.proofs.compare_apart.Goals as goal
 use Rattle.compare.proofs.compare_apart.Goals.{After-letter_files-l, Else-count_letters-gt64, Start}
 
 -- the files are valid
-valid : (s : goal.Start) → (reading_of s.args.first.now ≡ Valid s.args.a) × (reading_of s.args.second.now ≡ Valid s.args.b) × (false ≡ same_letters (automaton_of s.args.first.now) (automaton_of s.args.second.now))
+valid : (s : goal.Start) → (reading_of s.args.first.now ≡ Ok s.args.a) × (reading_of s.args.second.now ≡ Ok s.args.b) × (false ≡ same_letters (automaton_of s.args.first.now) (automaton_of s.args.second.now))
 valid s = files-valid s.args.first.now s.args.second.now s.requires.0
 
 -- and have at most 64 letters together
@@ -32,11 +32,11 @@ count_letters-requires c = valid (goal.at.count_letters-requires c).Start
 
 -- they are too many
 pub returns-then-count_letters-gt64 : goal.returns-then-count_letters-gt64
-returns-then-count_letters-gt64 c = record { same = refl; answers = letters-many c.args.first.now c.args.second.now c.requires.0 c.args.word.now (omega (arith, c.count_letters.ensures, c.if-count_letters-gt64.true)) }
+returns-then-count_letters-gt64 c = record { same = refl; answers = rw c.of_call.ensures (letters-many c.args.first.now c.args.second.now c.requires.0 c.args.word.now (omega (arith, c.count_letters.ensures, c.if-count_letters-gt64.true))) }
 
 -- so they can be compared over the letters of both
 joinable : (e : goal.Else-count_letters-gt64) → Joinable e.args.a e.args.b e.args.first.now e.args.second.now
-joinable e = let valid' : (reading_of e.args.first.now ≡ Valid e.args.a) × (reading_of e.args.second.now ≡ Valid e.args.b) × (false ≡ same_letters (automaton_of e.args.first.now) (automaton_of e.args.second.now)) = files-valid e.args.first.now e.args.second.now e.requires.0 in
+joinable e = let valid' : (reading_of e.args.first.now ≡ Ok e.args.a) × (reading_of e.args.second.now ≡ Ok e.args.b) × (false ≡ same_letters (automaton_of e.args.first.now) (automaton_of e.args.second.now)) = files-valid e.args.first.now e.args.second.now e.requires.0 in
     let v = valid' in record { first = v.0; second = v.1; few = few e }
 
 pub letter_files-l-requires : goal.letter_files-l-requires
@@ -47,7 +47,7 @@ lent : (n : ℕ) → n - 0 ≡ n
 lent n = omega arith
 
 over : (l : goal.After-letter_files-l) → OverBoth l.args.a l.args.b l.args.first.now l.args.second.now (take (l.args.a.letters - 0) l.letter_files-l.result.first) (take (l.args.b.letters - 0) l.letter_files-l.result.second) (take (l.letter_files-l.result.count - 0) l.letter_files-l.result.letters)
-over l = let valid' : (reading_of l.args.first.now ≡ Valid l.args.a) × (reading_of l.args.second.now ≡ Valid l.args.b) × (false ≡ same_letters (automaton_of l.args.first.now) (automaton_of l.args.second.now)) = files-valid l.args.first.now l.args.second.now l.requires.0 in
+over l = let valid' : (reading_of l.args.first.now ≡ Ok l.args.a) × (reading_of l.args.second.now ≡ Ok l.args.b) × (false ≡ same_letters (automaton_of l.args.first.now) (automaton_of l.args.second.now)) = files-valid l.args.first.now l.args.second.now l.requires.0 in
     let few' : length (letters_of l.args.first.now l.args.second.now) ≤ 64 = omega (arith, l.count_letters.ensures, l.if-count_letters-gt64.false) in
     let joinable' : Joinable l.args.a l.args.b l.args.first.now l.args.second.now = let v = valid' in record { first = v.0; second = v.1; few = few' } in
     rw (lent l.args.a.letters, lent l.args.b.letters, lent l.letter_files-l.result.count) (over-apart (joinable') l.letter_files-l.ensures.numbers.0 l.letter_files-l.ensures.numbers.1 l.letter_files-l.ensures.all)

@@ -11,11 +11,8 @@ loop-i-init c = walked_start _ _ _ _ _ _ c.requires.table
 pub expand-requires : goal.expand-requires
 expand-requires c = record { ready = ready-kept c.loop-i.invariant.kept c.requires.ready; i_lt_from = (c.loop-i-test.true, c.loop-i.invariant.table) }
 
-pub shape_of-w-in-TooMany : goal.shape_of-w-in-TooMany
-shape_of-w-in-TooMany c = c.w-1.given ∙ c.loop-i.invariant.kept.long
-
-pub returns-in-TooMany : goal.returns-in-TooMany
-returns-in-TooMany c = record { kept = kept_then c.loop-i.invariant.kept c.expand.ensures.kept; grows = tt; meets = Walked-over c.expand.new.w c.expand.result c.loop-i-test.true c.loop-i.invariant c.expand.ensures.kept c.expand.ensures.grows (λ s t es e b. c.expand.ensures.meets s t es e (both-kept c.loop-i.invariant.kept c.requires.ready b)) c.in-TooMany.is }
+pub returns-in_err-n : goal.returns-in_err-n
+returns-in_err-n c = rw c.from_residual.ensures (record { kept = kept_then c.loop-i.invariant.kept c.expand.ensures.kept; grows = tt; meets = Walked-over c.expand.new.w c.expand.result c.loop-i-test.true c.loop-i.invariant c.expand.ensures.kept c.expand.ensures.grows (λ s t es e b. c.expand.ensures.meets s t es e (both-kept c.loop-i.invariant.kept c.requires.ready b)) c.in_err-n.was })
 
 pub overflow_add-i : goal.overflow_add-i
 overflow_add-i c = omega (arith, c.loop-i.invariant.table.few)
@@ -24,7 +21,7 @@ pub loop-i-smaller : goal.loop-i-smaller
 loop-i-smaller c = omega (arith, c.loop-i.invariant.table.few)
 
 pub loop-i-preserved : goal.loop-i-preserved
-loop-i-preserved c = walked_more c.expand.new.w c.expand.result c.loop-i-test.true c.loop-i.invariant c.expand.ensures.kept c.expand.ensures.grows (λ s t es e b. c.expand.ensures.meets s t es e (both-kept c.loop-i.invariant.kept c.requires.ready b)) c.in-Total.more c.in-Total.is
+loop-i-preserved c = walked_more c.expand.new.w c.expand.result c.loop-i-test.true c.loop-i.invariant c.expand.ensures.kept c.expand.ensures.grows (λ s t es e b. c.expand.ensures.meets s t es e (both-kept c.loop-i.invariant.kept c.requires.ready b)) c.in_ok-n.n c.in_ok-n.was
 
 pub shape_of-w : goal.shape_of-w
 shape_of-w c = c.loop-i.invariant.kept.long

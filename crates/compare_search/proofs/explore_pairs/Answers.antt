@@ -10,7 +10,7 @@ use Rattle.word_layout.specs.declared.SetTable.{SetTable}
 use Rattle.live_table.specs.Entries.{begin}
 use Rattle.live_table.specs.SetRows.{Added}
 use Rattle.live_letters.proofs.Laws.{table-start}
-use Rattle.compare_search.proofs.BlockFrames.{both-kept, ready-kept, storable, tabled}
+use Rattle.compare_search.proofs.BlockFrames.{both-kept, ready-kept, tabled, two_sets}
 use Rattle.compare_search.proofs.FirstPair.{first-pair}
 use Rattle.compare_search.proofs.explore_pairs.Goals as goal
 use Rattle.compare_search.proofs.explore_pairs.Goals.{After-add_row, After-fill}
@@ -26,7 +26,7 @@ filled : (f : goal.After-fill) → Kept 0 first_block f.args.w.now f.fill.new.w
 filled f = let e = ap (λ (t : SetTable). t.index) f.pair_table-t.ensures in kept-wider (omega arith) (omega (arith, e)) f.fill.ensures.kept
 
 pub add_row-requires : goal.add_row-requires
-add_row-requires c = let long : 8192 ≤ length c.fill.new.w = omega (arith, c.fill.ensures.kept.long, c.requires.long) in record { n_bound = (omega arith, omega arith); tabled = (tabled long c.pair_table-t.ensures, (chain-start _ _ _ _ _ (λ i h. c.fill.ensures.set i (omega arith)), storable c.pair_table-t.ensures c.start_set-u.result c.start_set-v.result)) }
+add_row-requires c = let long : 8192 ≤ length c.fill.new.w = omega (arith, c.fill.ensures.kept.long, c.requires.long) in (omega arith, ((omega arith, omega arith), (two_sets c.pair_table-t.ensures, (tabled long c.pair_table-t.ensures, chain-start _ _ _ _ _ (λ i h. c.fill.ensures.set i (omega arith))))))
 
 -- the first pair, in the table of pairs
 added : (d : goal.After-add_row) → Added pair_table d.fill.new.w d.add_row.new.w 0 d.start_set-u.result d.start_set-v.result 0

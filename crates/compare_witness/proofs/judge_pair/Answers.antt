@@ -2,7 +2,7 @@
 use mathlib.Core.Bool.{Bool, true, false}
 use Rattle.compare_witness.proofs.FirstDifference.{judges, Judges}
 use Rattle.compare_witness.specs.Spelled.{alone}
-use mathlib.Core.Path.{◌≡◌}
+use Rattle.std.proofs.Common.{◌≡◌, rules}
 use Rattle.compare_witness.proofs.judge_pair.Goals as goal
 use Rattle.compare_witness.proofs.judge_pair.Goals.{After-meets-y}
 
@@ -11,18 +11,18 @@ told : (m : goal.After-meets-y) (X Y : Bool) → m.meets-x.result ≡ X → m.me
 told m X Y ex ey = judges m.args.t m.args.w.now m.args.i m.args.f m.args.g m.left.result m.right.result m.meets-x.result m.meets-y.result X Y
     m.left.ensures m.right.ensures m.meets-x.ensures m.meets-y.ensures ex ey
 
-pub returns-then-y : goal.returns-then-y
+pub returns-in-true-false : goal.returns-in-true-false
 unfolding alone
-returns-then-y c = told (goal.at.returns-then-y c).After-meets-y true true c.if-x.true c.if-y.true
+returns-in-true-false c = told (goal.at.returns-in-true-false c).After-meets-y true false (search rules) (search rules)
 
-pub returns-then-x : goal.returns-then-x
+pub returns-in-false-true : goal.returns-in-false-true
 unfolding alone
-returns-then-x c = told (goal.at.returns-then-x c).After-meets-y true false c.if-x.true c.if-y.false
+returns-in-false-true c = told (goal.at.returns-in-false-true c).After-meets-y false true (search rules) (search rules)
 
-pub returns-then-y-2 : goal.returns-then-y-2
+pub returns-in_default : goal.returns-in_default
 unfolding alone
-returns-then-y-2 c = told (goal.at.returns-then-y-2 c).After-meets-y false true c.if-x.false c.if-y-2.true
+returns-in_default c = told (goal.at.returns-in_default c).After-meets-y true true (search rules) (search rules)
 
-pub returns : goal.returns
+pub returns-in_default-2 : goal.returns-in_default-2
 unfolding alone
-returns c = told (goal.at.returns c).After-meets-y false false c.if-x.false c.if-y-2.false
+returns-in_default-2 c = told (goal.at.returns-in_default-2 c).After-meets-y false false (search rules) (search rules)

@@ -1,13 +1,7 @@
 -- `count_rounds::count_next` meets its contract. The loop's invariant: the next counts of the first i sets are made, and the counts are as
 -- they were.
-use mathlib.Core.Path.{◌≡◌}
-use Prim.Native.Nat.{◌-◌}
-use lib.ListN.{length}
 use Rattle.count_rounds.proofs.RoundLaws.{Nexting}
 use Rattle.count_rounds.proofs.count_next.Given as goal
 
 abbrev pub invariant-loop-i : goal.invariant-loop-i
-invariant-loop-i l = (length l.w ≡ length l.initial.w) × Nexting l.file l.c l.block l.n l.kept l.initial.w l.i l.w
-
-abbrev pub decreases-loop-i : goal.decreases-loop-i
-decreases-loop-i l = l.n - l.i
+invariant-loop-i l = Nexting l.file l.c l.block l.n l.kept l.initial.w l.i l.w

@@ -1,14 +1,13 @@
--- `count_rounds::ends_in` meets its contract.
-use mathlib.Core.Path.{◌∙◌, ap, sym}
-use mathlib.Core.Bool.{Bool, cond}
+use Rattle.std.proofs.Common.{Bool, true, false, ◌≡◌, ◌∙◌, ap, cond, refl}
+use Rattle.std.specs.Int.{from_bool}
 use Rattle.word_sets.proofs.Laws.{meets-view}
 use Rattle.count_rounds.specs.Rounds.{ends_in}
 use Rattle.count_rounds.proofs.ends_in.Goals as goal
 
-pub returns-then-meets : goal.returns-then-meets
-unfolding ends_in
-returns-then-meets c count v = ap (λ (b : Bool). cond b 1 0) (sym c.if-meets.true ∙ meets-view c.args.set c.args.finals v c.meets.ensures)
+one_or_none : (b : Bool) → from_bool b ≡ cond b 1 0
+one_or_none true = refl
+one_or_none false = refl
 
-pub returns-else-meets : goal.returns-else-meets
+pub returns : goal.returns
 unfolding ends_in
-returns-else-meets c count v = ap (λ (b : Bool). cond b 1 0) (sym c.if-meets.false ∙ meets-view c.args.set c.args.finals v c.meets.ensures)
+returns c count v = c.from.ensures ∙ ap from_bool (meets-view c.args.set c.args.finals v c.meets.ensures) ∙ one_or_none _

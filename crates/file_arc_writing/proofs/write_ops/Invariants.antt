@@ -1,6 +1,6 @@
 -- `file_arc_writing::write_ops` meets its contract.
 use mathlib.Core.List.{map}
-use Prim.Native.Nat.{◌-◌, ◌*◌, ◌≤◌}
+use Prim.Native.Nat.{◌-◌, ◌*◌}
 use lib.ListN.{drop}
 use Rattle.automata.specs.Joins.{moved_op}
 use Rattle.format.specs.Decoding.{ops_of}
@@ -9,7 +9,4 @@ use Rattle.file_writing.proofs.Laws.{Left}
 use Rattle.file_arc_writing.proofs.write_ops.Given as goal
 
 abbrev pub invariant-loop-i : goal.invariant-loop-i
-invariant-loop-i l = (l.i ≤ l.p) × Left 0 (ops_bytes (map (moved_op l.k) (ops_of l.p l.ops))) l.initial.out (2 * l.i) (ops_bytes (map (moved_op l.k) (ops_of (l.p - l.i) (drop (2 * l.i) l.ops)))) l.out
-
-abbrev pub decreases-loop-i : goal.decreases-loop-i
-decreases-loop-i l = l.p - l.i
+invariant-loop-i l = Left 0 (ops_bytes (map (moved_op l.k) (ops_of l.p l.ops))) l.initial.out (2 * l.i) (ops_bytes (map (moved_op l.k) (ops_of (l.p - l.i) (drop (2 * l.i) l.ops)))) l.out

@@ -4,7 +4,6 @@ use Prim.Native.Nat.{ℕ}
 use lib.Dec.{eqb, leb, ltb}
 use Rattle.file_fields.specs.declared.Counts.{Counts}
 use Rattle.file_fields.proofs.Laws.{itself}
-use borrow.Author.Rules.{rules}
 use Rattle.file_arcs.proofs.are_fields.Goals as goal
 
 -- the four tests, of the bytes themselves

@@ -1,15 +1,11 @@
 -- The first field out of its range: at each return the tests before it hold, and the one there fails or all hold.
 use mathlib.Core.Path.{◌≡◌}
 use mathlib.Core.Bool.{true, ◌&&◌, ◌||◌}
-use Prim.Native.Nat.{◌+◌}
-use native.Mathlib.Omega.{arith}
 use borrow.Author.Tests.{not-false, not-true}
 use lib.Dec.{eqb, leb, ltb}
 use lib.ListN.{get_or}
-use Rattle.file_fields.specs.declared.Reading.TheVariants.{Refused}
 use Rattle.file_fields.specs.Parts.{first_fault}
 use Rattle.file_fields.proofs.Laws.{itself}
-use borrow.Author.Rules.{rules}
 use Rattle.file_arcs.proofs.field_fault.Goals as goal
 use Rattle.file_arcs.proofs.field_fault.Goals.{Else-not-from-states, Else-not-letter-letters, Else-not-to-states}
 
@@ -26,22 +22,19 @@ to-within c = rw (← c.byte-to.ensures.0) (not-false (ltb c.byte-to.result c.ar
 -- ---- the returns
 pub returns-then-not-from-states : goal.returns-then-not-from-states
 unfolding first_fault
-returns-then-not-from-states c = rw (← c.byte-from.ensures.0, not-true (ltb c.byte-from.result c.args.c.states) c.if-not-from-states.true-raw) (itself (Refused 7 c.args.at))
+returns-then-not-from-states c = rw (← c.byte-from.ensures.0, not-true (ltb c.byte-from.result c.args.c.states) c.if-not-from-states.true-raw, c.at.ensures) (itself _)
 
 pub returns-then-not-letter-letters : goal.returns-then-not-letter-letters
 unfolding first_fault
-returns-then-not-letter-letters c = rw (from-within (goal.at.returns-then-not-letter-letters c).Else-not-from-states, ← c.byte-letter.ensures.0, not-true (eqb c.byte-letter.result 255 || ltb c.byte-letter.result c.args.c.letters) c.if-not-letter-letters.true-raw)
-    (itself (Refused 32 (c.args.at + 1)))
+returns-then-not-letter-letters c = rw (from-within (goal.at.returns-then-not-letter-letters c).Else-not-from-states, ← c.byte-letter.ensures.0, not-true (eqb c.byte-letter.result 255 || ltb c.byte-letter.result c.args.c.letters) c.if-not-letter-letters.true-raw, c.at-then-not-letter-letters.ensures) (itself _)
 
 pub returns-then-not-to-states : goal.returns-then-not-to-states
 unfolding first_fault
-returns-then-not-to-states c = rw (from-within (goal.at.returns-then-not-to-states c).Else-not-from-states, letter-within (goal.at.returns-then-not-to-states c).Else-not-letter-letters, ← c.byte-to.ensures.0, not-true (ltb c.byte-to.result c.args.c.states) c.if-not-to-states.true-raw)
-    (itself (Refused 33 (c.args.at + 2)))
+returns-then-not-to-states c = rw (from-within (goal.at.returns-then-not-to-states c).Else-not-from-states, letter-within (goal.at.returns-then-not-to-states c).Else-not-letter-letters, ← c.byte-to.ensures.0, not-true (ltb c.byte-to.result c.args.c.states) c.if-not-to-states.true-raw, c.at-then-not-to-states.ensures) (itself _)
 
 pub returns-then-not-operations : goal.returns-then-not-operations
 unfolding first_fault
-returns-then-not-operations c = rw (from-within (goal.at.returns-then-not-operations c).Else-not-from-states, letter-within (goal.at.returns-then-not-operations c).Else-not-letter-letters, to-within (goal.at.returns-then-not-operations c).Else-not-to-states, ← c.byte-operations.ensures.0, not-true (leb 1 c.byte-operations.result && leb c.byte-operations.result 8) c.if-not-operations.true-raw)
-    (itself (Refused 34 (c.args.at + 3)))
+returns-then-not-operations c = rw (from-within (goal.at.returns-then-not-operations c).Else-not-from-states, letter-within (goal.at.returns-then-not-operations c).Else-not-letter-letters, to-within (goal.at.returns-then-not-operations c).Else-not-to-states, ← c.byte-operations.ensures.0, not-true (leb 1 c.byte-operations.result && leb c.byte-operations.result 8) c.if-not-operations.true-raw, c.at-then-not-operations.ensures) (itself _)
 
 pub returns : goal.returns
 unfolding first_fault

@@ -5,7 +5,6 @@ use borrow.Author.Tests.{le-leb, lt-leb}
 use lib.ListN.{length, get_or, drop}
 use Rattle.file_fields.specs.Parts.{well_ops}
 use Rattle.file_fields.proofs.Laws.{failed, passed, tail}
-use borrow.Author.Rules.{rules}
 use Rattle.file_arcs.proofs.is_arc.Goals as goal
 use Rattle.file_arcs.proofs.is_arc.Goals.{After-are_operations}
 

@@ -1,5 +1,4 @@
 -- Whether two bytes are an operation: the test itself, of the bytes that were read; of two bytes 00 what is left of it.
-use borrow.Author.Rules.{rules}
 use native.Mathlib.Omega.{arith}
 use mathlib.Core.Path.{◌≡◌, ap, refl, sym}
 use mathlib.Core.Logic.{◌≢◌}

@@ -2,19 +2,18 @@
 use mathlib.Core.Path.{◌≡◌, ap, sym, ◌∙◌}
 use mathlib.Core.Bool.{true}
 use Prim.Native.Nat.{ℕ, ◌+◌, ◌*◌}
-use native.Mathlib.Omega.{arith}
 use borrow.Author.Tests.{le-leb, lt-leb}
 use lib.Dec.{leb}
 use lib.ListN.{get_or, drop}
-use Rattle.file_fields.specs.declared.Reading.TheVariants.{Refused, Valid}
+use Rattle.std.specs.Prelude.{Ok, Err}
+use Rattle.file_fields.specs.declared.Reason.TheVariants.{Operation}
 use Rattle.file_fields.specs.Parts.{field_tests, operation_tests, ops_front, well_ops, first_fault}
 use Rattle.file_fields.proofs.Laws.{each_holds, failed, fault_append, Hold-valid, one-fails, ops-all, passed, tail}
-use borrow.Author.Rules.{rules}
 use Rattle.file_arcs.proofs.read_arc.Goals as goal
 use Rattle.file_arcs.proofs.read_arc.Goals.{After-operations_front-front, Else-not-are_fields}
 
 -- where the fields are well, what is left decides
-fielded : (c : goal.Else-not-are_fields) → first_fault (field_tests c.args.c c.args.at c.args.s.now) c.args.c ≡ Valid c.args.c
+fielded : (c : goal.Else-not-are_fields) → first_fault (field_tests c.args.c c.args.at c.args.s.now) c.args.c ≡ Ok c.args.c
 fielded c = Hold-valid (field_tests c.args.c c.args.at c.args.s.now) c.args.c (each_holds true (field_tests c.args.c c.args.at c.args.s.now) (passed c.are_fields.ensures c.if-not-are_fields.false-raw)).1
 
 -- what the callee said of the part, said of the whole
@@ -27,7 +26,7 @@ all-operate c = ops-all c.args.c (get_or c.args.s.now 1 0) (get_or c.args.s.now 
 
 pub returns-then-size-lt4 : goal.returns-then-size-lt4
 unfolding first_fault
-returns-then-size-lt4 c = rw (lt-leb _ _ c.if-size-lt4.true)
+returns-then-size-lt4 c = rw (lt-leb _ _ c.if-size-lt4.true, c.at.ensures)
 
 pub returns-then-not-are_fields : goal.returns-then-not-are_fields
 unfolding first_fault
@@ -42,6 +41,7 @@ returns-then-size-arc_size c = rw (
   fielded (goal.at.returns-then-size-arc_size c).Else-not-are_fields,
   ← c.arc_size.ensures.0,
   lt-leb _ _ c.if-size-arc_size.true,
+  c.at-then-size-arc_size.ensures,
 )
 
 pub returns-then-front-p : goal.returns-then-front-p
@@ -53,8 +53,9 @@ returns-then-front-p c = rw (
   ← c.arc_size.ensures.0,
   le-leb _ _ c.if-size-arc_size.false,
   all-operate (goal.at.returns-then-front-p c).After-operations_front-front ∙ lt-leb _ _ c.if-front-p.true,
+  c.at-then-front-p.ensures,
 )
-    (ap (λ (n : ℕ). Refused 8 (c.args.at + 4 + 2 * n)) (operated (goal.at.returns-then-front-p c).After-operations_front-front))
+    (ap (λ (n : ℕ). Err (record { reason = Operation; place = (c.args.at + 4 + 2 * n) })) (operated (goal.at.returns-then-front-p c).After-operations_front-front))
 
 pub returns : goal.returns
 unfolding first_fault

@@ -4,7 +4,6 @@ use mathlib.Core.Bool.{true}
 use lib.ListN.{drop}
 use Rattle.file_fields.specs.Parts.{arcs_tests}
 use Rattle.file_fields.proofs.Laws.{each_holds, Hold-valid, passed}
-use borrow.Author.Rules.{rules}
 use Rattle.file_arcs.proofs.read_arcs.Goals as goal
 
 pub returns-then-not-are_arcs : goal.returns-then-not-are_arcs

@@ -4,19 +4,21 @@ use Prim.Native.Nat.{◌*◌, ◌+◌, ◌≤◌, ℕ}
 use native.Mathlib.Nat.{le_trans, mul-le-mul_left, mul-le-mul_right}
 use native.Mathlib.Omega.{arith}
 use lib.ListN.{length}
+use Rattle.std.specs.Prelude.{Err}
+use Rattle.std.proofs.lemmas.Result.{err_from_is_err_and}
 use Rattle.automata.specs.Automaton.{Automaton}
 use Rattle.automata.specs.Joins.{clearing, closure, final_states}
 use Rattle.file_fields.specs.declared.Counts.{Counts}
 use Rattle.format.specs.Decoding.{automaton_of}
-use Rattle.format.specs.Encoding.{sizes}
+use Rattle.format.specs.Encoding.{bytes_of, sizes}
 use Rattle.file_laws.proofs.Laws.{valid-fits, valid-ranges, valid-sizes}
 use Rattle.join_parts.specs.Joining.{written_of}
 use Rattle.join_closure.proofs.ClosureBytes.{closure-counts, closure-length}
 use Rattle.join_closure.proofs.ClosureFits.{closure-fits, closure-ops}
-use Rattle.join_parts.proofs.Laws.{decided-written, valid-lengths, written-bytes}
+use Rattle.join_parts.proofs.Laws.{decided-written, unchanged, valid-lengths, written-bytes}
 use Rattle.file_writing.proofs.Laws.{file-written}
 use Rattle.join_closure.proofs.repeat.Goals as goal
-use Rattle.join_closure.proofs.repeat.Goals.{After-closure_counts-c, After-decide-answer, After-return_size, Start}
+use Rattle.join_closure.proofs.repeat.Goals.{After-closure_counts-c, After-decide, After-return_size, Start}
 
 -- the automaton, and the counts of its closure
 abbrev joined : goal.Start → Automaton
@@ -40,9 +42,9 @@ small c = let joined' : Automaton = closure (automaton_of c.args.file.now) in
     (omega (arith, ap (λ (d : Counts). d.letters) e, r.letters), omega (arith, ap (λ (d : Counts). d.states) e, r.states), le_trans p q)
 
 -- the answer
-answered : (c : goal.After-decide-answer) →
+answered : (c : goal.After-decide) →
     let joined' : Automaton = closure (automaton_of c.args.file.now) in
-    let counts' : sizes (joined') ≡ c.closure_counts-c.result = c.closure_counts-c.ensures (automaton_of c.args.file.now) (valid-sizes _ _ c.requires) (sym c.count_finals-finals.ensures.0) in c.decide-answer.result ≡ written_of (joined') (length c.args.out.now)
+    let counts' : sizes (joined') ≡ c.closure_counts-c.result = c.closure_counts-c.ensures (automaton_of c.args.file.now) (valid-sizes _ _ c.requires) (sym c.count_finals-finals.ensures.0) in c.decide.result ≡ written_of (joined') (length c.args.out.now)
 answered c = let joined' : Automaton = closure (automaton_of c.args.file.now) in
     let counts' : sizes (joined') ≡ c.closure_counts-c.result = c.closure_counts-c.ensures (automaton_of c.args.file.now) (valid-sizes _ _ c.requires) (sym c.count_finals-finals.ensures.0) in
     let x = automaton_of c.args.file.now in
@@ -51,7 +53,7 @@ answered c = let joined' : Automaton = closure (automaton_of c.args.file.now) in
     let k = ap (λ (d : Counts). d.registers) (valid-sizes _ _ c.requires) in
     let returns-in_default : length (final_states 0 x.finals) * (4 + 2 * length (clearing x.registers)) ≡ c.count_finals-finals.result * c.return_size.result
     = ap₂ (λ (m n : ℕ). m * n) (sym c.count_finals-finals.ensures.0) (ap (λ (n : ℕ). 4 + 2 * length (clearing n)) k ∙ sym c.return_size.ensures.0) in
-    c.decide-answer.ensures
+    c.decide.ensures
     ∙ decided-written (closure x) (length c.args.out.now) c.closure_counts-c.result size (closure-ops x (valid-fits _ _ c.requires)) n
     (omega (arith, closure-length x, ap (λ (d : Counts). d.letters) n, ap (λ (d : Counts). d.states) n, c.arcs_size.ensures.0))
 
@@ -77,12 +79,14 @@ overflow_add-size-3 c = omega (arith, small (goal.at.overflow_add-size-3 c).Afte
 pub overflow_add-size-4 : goal.overflow_add-size-4
 overflow_add-size-4 c = omega (arith, small (goal.at.overflow_add-size-4 c).After-return_size, c.arcs_size.ensures.1)
 
-pub returns-in_default : goal.returns-in_default
-returns-in_default c = record { answer = answered (goal.at.returns-in_default c).After-decide-answer; output = rw c.in_default.is }
+pub returns-in_err-length : goal.returns-in_err-length
+returns-in_err-length c = let p = err_from_is_err_and c.from_residual.result c.from_residual.ensures.1 in
+    let e = p.1 ∙ ap Err p.2 in
+    record { answer = e ∙ sym c.in_err-length.was ∙ answered (goal.at.returns-in_err-length c).After-decide; output = unchanged (bytes_of (closure (automaton_of c.args.file.now))) c.args.out.now _ e }
 
 pub write_closure-requires : goal.write_closure-requires
-write_closure-requires c = let w = written-bytes (joined (goal.at.write_closure-requires c).Start) (length c.args.out.now) (sym (answered (goal.at.write_closure-requires c).After-decide-answer) ∙ c.in-Bytes.is) in
+write_closure-requires c = let w = written-bytes (joined (goal.at.write_closure-requires c).Start) (length c.args.out.now) (sym (answered (goal.at.write_closure-requires c).After-decide) ∙ c.in_ok-length.was) in
     (c.requires, counts (goal.at.write_closure-requires c).After-closure_counts-c, closure-fits _ (valid-fits _ _ c.requires) w.within, w.room)
 
 pub returns : goal.returns
-returns c = record { answer = answered (goal.at.returns c).After-decide-answer; output = rw c.in-Bytes.is (file-written c.write_closure.ensures) }
+returns c = record { answer = sym c.in_ok-length.was ∙ answered (goal.at.returns c).After-decide; output = file-written c.write_closure.ensures }

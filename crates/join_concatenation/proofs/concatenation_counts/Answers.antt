@@ -6,4 +6,4 @@ use Rattle.join_concatenation.proofs.ConcatenationBytes.{concatenation-roomy-cou
 use Rattle.join_concatenation.proofs.concatenation_counts.Goals as goal
 
 pub returns : goal.returns
-returns c = λ x y p f q. rw (c.larger.ensures, ← p, ← q) (concatenation-roomy-counts x y _ (omega (arith, ap (λ (d : Counts). d.letters) p)) f)
+returns c = λ x y p f q. rw (c.max.ensures, ← p, ← q) (concatenation-roomy-counts x y _ (omega (arith, ap (λ (d : Counts). d.letters) p)) f)

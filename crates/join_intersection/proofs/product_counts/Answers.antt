@@ -18,4 +18,4 @@ pub returns : goal.returns
 unfolding with_letters
 returns c = λ x y new p q.
     let room : letters x ≤ c.args.letters = omega (arith, c.requires.2, ap (λ (d : Counts). d.letters) p) in
-    rw (c.larger.ensures, ← p, ← q) (ap (with_arcs c.args.arcs) (intersection-counts x (with_letters new [] y) c.args.letters room))
+    rw (c.max.ensures, ← p, ← q) (ap (with_arcs c.args.arcs) (intersection-counts x (with_letters new [] y) c.args.letters room))

@@ -15,12 +15,12 @@ use Rattle.join_product_count.proofs.count_empty.Goals.{After-arc_size-bytes, In
 
 -- the arc of this turn
 here : (c : goal.In-loop-i) → ArcHere c.args.c c.args.file.now c.loop-i.from
-here c = walk_here c.args.c c.args.file.now c.args.c.arcs c.loop-i.i c.loop-i.from c.loop-i-test.true c.loop-i.invariant.1
+here c = walk_here c.args.c c.args.file.now c.args.c.arcs c.loop-i._i c.loop-i.from c.loop-i-test.true c.loop-i.invariant.0
 
 -- the numbers of this turn are small
-bounds : (c : goal.After-arc_size-bytes) → (c.args.n ≤ 256) × (c.args.n * c.arc_size-bytes.result ≤ 131840) × (c.loop-i.arcs ≤ 256 * c.loop-i.i) × (c.loop-i.size ≤ 131840 * c.loop-i.i) × (c.loop-i.i < 2048)
+bounds : (c : goal.After-arc_size-bytes) → (c.args.n ≤ 256) × (c.args.n * c.arc_size-bytes.result ≤ 131840) × (c.loop-i.arcs ≤ 256 * c.loop-i._i) × (c.loop-i.size ≤ 131840 * c.loop-i._i) × (c.loop-i._i < 2048)
 bounds c = let h : c.arc_size-bytes.result ≤ 515 = omega (arith, c.arc_size-bytes.ensures.1) in
-    (c.requires.1, omega (arith, mul-le-mul_left c.args.n h, c.requires.1), c.loop-i.invariant.2, c.loop-i.invariant.3, omega (arith, c.loop-i-test.true, (valid-ranges _ _ c.requires.0).arcs))
+    (c.requires.1, omega (arith, mul-le-mul_left c.args.n h, c.requires.1), c.loop-i.invariant.1, c.loop-i.invariant.2, omega (arith, c.loop-i-test.true, (valid-ranges _ _ c.requires.0).arcs))
 
 pub first_arc-from-requires : goal.first_arc-from-requires
 first_arc-from-requires c = let r = valid-ranges _ _ c.requires.0 in
@@ -28,7 +28,7 @@ first_arc-from-requires c = let r = valid-ranges _ _ c.requires.0 in
 
 pub loop-i-init : goal.loop-i-init
 loop-i-init c = let e : c.args.c.arcs - 0 ≡ c.args.c.arcs = omega arith in
-    (omega arith, rw (e, c.first_arc-from.ensures) (walk_start _ _ c.requires.0), omega arith, omega arith, λ f k. rw (e, c.first_arc-from.ensures) (Uncounted-all _))
+    (rw (e, c.first_arc-from.ensures) (walk_start _ _ c.requires.0), omega arith, omega arith, λ f k. rw (e, c.first_arc-from.ensures) (Uncounted-all _))
 
 pub arc_size-bytes-requires : goal.arc_size-bytes-requires
 arc_size-bytes-requires c = omega (arith, (here c).whole)
@@ -53,30 +53,28 @@ overflow_add-from-in-loop-i c = omega (arith, (here (goal.at.overflow_add-from-i
 
 pub loop-i-preserved : goal.loop-i-preserved
 loop-i-preserved c = let arc = drop c.loop-i.from c.args.file.now in
-    let on = walk-on c.args.c c.args.file.now c.args.c.arcs c.loop-i.i c.loop-i.from c.loop-i-test.true c.loop-i.invariant.1 in
+    let on = walk-on c.args.c c.args.file.now c.args.c.arcs c.loop-i._i c.loop-i.from c.loop-i-test.true c.loop-i.invariant.0 in
     let b = bounds (goal.at.loop-i-preserved c).After-arc_size-bytes in
     elim c.if-byte-eq255.branch [
       | then-byte-eq255 w ↦ (
-        omega arith,
         rw c.arc_size-bytes.ensures.0 on,
         omega (arith, w.arcs-is, b),
         omega (arith, w.size-is, b),
         λ f k. rw (w.arcs-is, w.size-is, c.arc_size-bytes.ensures.0)
             (Uncounted-less (map (f (arc_of arc)) (count_from 0 c.args.n)) _ (all-tallied (f (arc_of arc)) (get_or arc 3 0) (λ j. k (arc_of arc) j ∙ ops-here arc) (omega (arith, (here (goal.at.loop-i-preserved c).In-loop-i).fits.few_ops, ops-here arc)) 0 c.args.n)
-            (rw (empty-next f c.args.n c.args.c c.args.file.now c.args.c.arcs c.loop-i.i c.loop-i.from c.loop-i-test.true (sym c.byte.ensures.0 ∙ w.if-byte-eq255.true)) at (c.loop-i.invariant.4 f k))),
+            (rw (empty-next f c.args.n c.args.c c.args.file.now c.args.c.arcs c.loop-i._i c.loop-i.from c.loop-i-test.true (sym c.byte.ensures.0 ∙ w.if-byte-eq255.true)) at (c.loop-i.invariant.3 f k))),
       )
       | else-byte-eq255 w ↦ (
-        omega arith,
         rw c.arc_size-bytes.ensures.0 on,
         omega (arith, w.arcs-is, b),
         omega (arith, w.size-is, b),
-        λ f k. rw (w.arcs-is, w.size-is, c.arc_size-bytes.ensures.0) (rw (empty-skip f c.args.n c.args.c c.args.file.now c.args.c.arcs c.loop-i.i c.loop-i.from c.loop-i-test.true (λ d. w.if-byte-eq255.false (c.byte.ensures.0 ∙ d))) at (c.loop-i.invariant.4 f k)),
+        λ f k. rw (w.arcs-is, w.size-is, c.arc_size-bytes.ensures.0) (rw (empty-skip f c.args.n c.args.c c.args.file.now c.args.c.arcs c.loop-i._i c.loop-i.from c.loop-i-test.true (λ d. w.if-byte-eq255.false (c.byte.ensures.0 ∙ d))) at (c.loop-i.invariant.3 f k)),
       )
     ]
 
 pub returns : goal.returns
 returns c = let r = valid-ranges _ _ c.requires.0 in (
-  λ f k. rw (valid-arcs _ _ c.requires.0) (Uncounted-none (rw (empty-none f c.args.n c.args.c c.args.file.now c.args.c.arcs c.loop-i.i c.loop-i.from c.loop-i-test.false) at (c.loop-i.invariant.4 f k))),
+  λ f k. rw (valid-arcs _ _ c.requires.0) (Uncounted-none (rw (empty-none f c.args.n c.args.c c.args.file.now c.args.c.arcs c.loop-i._i c.loop-i.from c.loop-i-test.false) at (c.loop-i.invariant.3 f k))),
   omega (arith, r.arcs),
   omega (arith, r.arcs),
 )

@@ -12,7 +12,4 @@ use Rattle.join_product_count.proofs.Uncounted.{Uncounted}
 use Rattle.join_product_count.proofs.count_empty.Given as goal
 
 abbrev pub invariant-loop-i : goal.invariant-loop-i
-invariant-loop-i l = (l.i ≤ l.c.arcs) × Walk l.c l.file (l.c.arcs - l.i) l.from × (l.arcs ≤ 256 * l.i) × (l.size ≤ 131840 * l.i) × ((f : Arc → ℕ → Arc) → ((x : Arc) (j : ℕ) → length (f x j).ops ≡ length x.ops) → Uncounted (record { arcs = l.arcs; size = l.size; many = false }) (empty_with f l.n (arcs_of (l.c.arcs - l.i) (drop l.from l.file))) (empty_with f l.n (arcs_of l.c.arcs (drop (first_arc l.c) l.file))))
-
-abbrev pub decreases-loop-i : goal.decreases-loop-i
-decreases-loop-i l = l.c.arcs - l.i
+invariant-loop-i l = Walk l.fn.c l.file (l.fn.c.arcs - l._i) l.from × (l.arcs ≤ 256 * l._i) × (l.size ≤ 131840 * l._i) × ((f : Arc → ℕ → Arc) → ((x : Arc) (j : ℕ) → length (f x j).ops ≡ length x.ops) → Uncounted (record { arcs = l.arcs; size = l.size; many = false }) (empty_with f l.n (arcs_of (l.fn.c.arcs - l._i) (drop l.from l.file))) (empty_with f l.n (arcs_of l.fn.c.arcs (drop (first_arc l.fn.c) l.file))))

@@ -11,7 +11,4 @@ use Rattle.join_product_count.proofs.Uncounted.{Uncounted}
 use Rattle.join_product_count.proofs.count_first.Given as goal
 
 abbrev pub invariant-loop-i : goal.invariant-loop-i
-invariant-loop-i l = (l.i ≤ l.a.arcs) × Walk l.a l.first (l.a.arcs - l.i) l.from × (l.arcs ≤ 2048 * l.i) × (l.size ≤ 2097152 * l.i) × ((k : ℕ) → Uncounted (record { arcs = l.arcs; size = l.size; many = l.many }) (flat_map (first_with l.b.states k (by_first l.first l.others l.second).arcs) (arcs_of (l.a.arcs - l.i) (drop l.from l.first))) (flat_map (first_with l.b.states k (by_first l.first l.others l.second).arcs) (arcs_of l.a.arcs (drop (first_arc l.a) l.first))))
-
-abbrev pub decreases-loop-i : goal.decreases-loop-i
-decreases-loop-i l = l.a.arcs - l.i
+invariant-loop-i l = Walk l.fn.a l.first (l.fn.a.arcs - l._i) l.from × (l.arcs ≤ 2048 * l._i) × (l.size ≤ 2097152 * l._i) × ((k : ℕ) → Uncounted (record { arcs = l.arcs; size = l.size; many = l.many }) (flat_map (first_with l.b.states k (by_first l.first l.others l.second).arcs) (arcs_of (l.fn.a.arcs - l._i) (drop l.from l.first))) (flat_map (first_with l.b.states k (by_first l.first l.others l.second).arcs) (arcs_of l.fn.a.arcs (drop (first_arc l.fn.a) l.first))))

@@ -25,7 +25,7 @@ found c = let sought' : Wanted c.requires.counts c.args.first.now c.args.others.
 
 -- the arc of this turn
 here : (c : goal.In-loop-i) → ArcHere c.args.b c.args.second.now c.loop-i.at
-here c = walk_here c.args.b c.args.second.now c.args.b.arcs c.loop-i.i c.loop-i.at c.loop-i-test.true c.loop-i.invariant.1
+here c = walk_here c.args.b c.args.second.now c.args.b.arcs c.loop-i._i c.loop-i.at c.loop-i-test.true c.loop-i.invariant.0
 
 pub overflow_add-from : goal.overflow_add-from
 overflow_add-from c = omega (arith, c.requires.whole)
@@ -62,7 +62,7 @@ first_arc-at-requires c = let r = valid-ranges _ _ c.requires.files.second in
 
 pub loop-i-init : goal.loop-i-init
 loop-i-init c = let e : c.args.b.arcs - 0 ≡ c.args.b.arcs = omega arith in
-    (omega arith, rw (e, c.first_arc-at.ensures) (walk_start _ _ c.requires.files.second), λ n k. rw (e, c.first_arc-at.ensures) (Uncounted-all _), omega arith, omega arith)
+    (rw (e, c.first_arc-at.ensures) (walk_start _ _ c.requires.files.second), λ n k. rw (e, c.first_arc-at.ensures) (Uncounted-all _), omega arith, omega arith)
 
 pub overflow_add-at : goal.overflow_add-at
 overflow_add-at c = omega (arith, (here c).whole)
@@ -80,8 +80,8 @@ pub byte-requires-in-loop-i : goal.byte-requires-in-loop-i
 byte-requires-in-loop-i c = omega (arith, (here (goal.at.byte-requires-in-loop-i c).In-loop-i).whole)
 
 -- the numbers of this turn are small
-bounds : (c : goal.After-byte) → (c.byte.result < 256) × (c.byte-p.result < 256) × (c.loop-i.arcs ≤ c.loop-i.i) × (c.loop-i.sum ≤ 510 * c.loop-i.i) × (c.loop-i.i < 2048)
-bounds c = (c.byte.ensures.1, c.byte-p.ensures.1, c.loop-i.invariant.3, c.loop-i.invariant.4, omega (arith, c.loop-i-test.true, (valid-ranges _ _ c.requires.files.second).arcs))
+bounds : (c : goal.After-byte) → (c.byte.result < 256) × (c.byte-p.result < 256) × (c.loop-i.arcs ≤ c.loop-i._i) × (c.loop-i.sum ≤ 510 * c.loop-i._i) × (c.loop-i._i < 2048)
+bounds c = (c.byte.ensures.1, c.byte-p.ensures.1, c.loop-i.invariant.2, c.loop-i.invariant.3, omega (arith, c.loop-i-test.true, (valid-ranges _ _ c.requires.files.second).arcs))
 
 pub overflow_add-arcs : goal.overflow_add-arcs
 overflow_add-arcs c = omega (arith, bounds (goal.at.overflow_add-arcs c).After-byte)
@@ -100,21 +100,19 @@ loop-i-preserved c = let new = numbers_by c.args.first.now c.args.others.now in
     let x = arc_of (drop c.args.from c.args.first.now) in
     let y = relettered_arc new (arc_of (drop c.loop-i.at c.args.second.now)) in
     let letter = (sought (goal.at.loop-i-preserved c).Else-letter-eq255).letter in
-    let on = walk-on c.args.b c.args.second.now c.args.b.arcs c.loop-i.i c.loop-i.at c.loop-i-test.true c.loop-i.invariant.1 in
+    let on = walk-on c.args.b c.args.second.now c.args.b.arcs c.loop-i._i c.loop-i.at c.loop-i-test.true c.loop-i.invariant.0 in
     let b = bounds (goal.at.loop-i-preserved c).After-byte in
     let q : (n k : ℕ) → length (arc_both n k x y).ops ≡ c.byte-p.result + c.byte.result = λ n k. joint_ops n k x y ∙ ap₂ (λ (u v : ℕ). u + v) (ops-at c.args.first.now c.args.from ∙ sym c.byte-p.ensures.0) (ops-at c.args.second.now c.loop-i.at ∙ sym c.byte.ensures.0) in
     elim c.if-own-byte.branch [
       | then-own-byte w ↦ (
-        omega arith,
         rw c.arc_size-at.ensures.0 on,
-        λ n k. rw (w.arcs-is, w.sum-is, w.most-is ∙ w.larger-most.ensures, c.arc_size-at.ensures.0) (Uncounted-one c.loop-i.arcs c.loop-i.sum c.loop-i.most (arc_both n k x y) _ _ (q n k) (rw (joint_next n k x letter c.args.second.now new (found (goal.at.loop-i-preserved c).After-other_letter-own) c.args.b.arcs c.loop-i.i c.loop-i.at c.loop-i-test.true (here (goal.at.loop-i-preserved c).In-loop-i) (w.if-own-byte.true ∙ c.byte-in-loop-i.ensures.0)) at (c.loop-i.invariant.2 n k))),
+        λ n k. rw (w.arcs-is, w.sum-is, w.most-is ∙ w.max-most.ensures, c.arc_size-at.ensures.0) (Uncounted-one c.loop-i.arcs c.loop-i.sum c.loop-i.most (arc_both n k x y) _ _ (q n k) (rw (joint_next n k x letter c.args.second.now new (found (goal.at.loop-i-preserved c).After-other_letter-own) c.args.b.arcs c.loop-i._i c.loop-i.at c.loop-i-test.true (here (goal.at.loop-i-preserved c).In-loop-i) (w.if-own-byte.true ∙ c.byte-in-loop-i.ensures.0)) at (c.loop-i.invariant.1 n k))),
         omega (arith, w.arcs-is, b),
         omega (arith, w.sum-is, b),
       )
       | else-own-byte w ↦ (
-        omega arith,
         rw c.arc_size-at.ensures.0 on,
-        λ n k. rw (w.arcs-is, w.sum-is, w.most-is, c.arc_size-at.ensures.0) (rw (joint_skip n k x letter c.args.second.now new (found (goal.at.loop-i-preserved c).After-other_letter-own) c.args.b.arcs c.loop-i.i c.loop-i.at c.loop-i-test.true (here (goal.at.loop-i-preserved c).In-loop-i) (λ d. w.if-own-byte.false (d ∙ sym c.byte-in-loop-i.ensures.0))) at (c.loop-i.invariant.2 n k)),
+        λ n k. rw (w.arcs-is, w.sum-is, w.most-is, c.arc_size-at.ensures.0) (rw (joint_skip n k x letter c.args.second.now new (found (goal.at.loop-i-preserved c).After-other_letter-own) c.args.b.arcs c.loop-i._i c.loop-i.at c.loop-i-test.true (here (goal.at.loop-i-preserved c).In-loop-i) (λ d. w.if-own-byte.false (d ∙ sym c.byte-in-loop-i.ensures.0))) at (c.loop-i.invariant.1 n k)),
         omega (arith, w.arcs-is, b),
         omega (arith, w.sum-is, b),
       )
@@ -123,14 +121,14 @@ loop-i-preserved c = let new = numbers_by c.args.first.now c.args.others.now in
 -- what is counted is small
 small : (c : goal.After-loop-i) → (c.loop-i.arcs ≤ 2048) × (c.loop-i.sum ≤ 1044480)
 small c = let many = (valid-ranges _ _ c.requires.files.second).arcs in
-    (omega (arith, c.loop-i.invariant.0, c.loop-i.invariant.3), omega (arith, c.loop-i.invariant.0, c.loop-i.invariant.4))
+    (omega (arith, c.loop-i.auto._i-end, c.loop-i.invariant.2), omega (arith, c.loop-i.auto._i-end, c.loop-i.invariant.3))
 
 pub returns : goal.returns
 unfolding with_letters
 returns c = let new = numbers_by c.args.first.now c.args.others.now in
     let x = arc_of (drop c.args.from c.args.first.now) in
     let e : (k : ℕ) → first_with c.args.b.states k (map (relettered_arc new) (automaton_of c.args.second.now).arcs) x ≡ joint_with c.args.b.states k (map (relettered_arc new) (automaton_of c.args.second.now).arcs) x = λ k. first-lettered c.args.b.states k (map (relettered_arc new) (automaton_of c.args.second.now).arcs) x _ (letter_at c.args.first.now c.args.from) (λ d. c.if-letter-eq255.false (c.byte-letter.ensures.0 ∙ d)) in (
-      λ k. rw (e k, valid-arcs _ _ c.requires.files.second) (Uncounted-none (rw (joint_none c.args.b.states k x new c.args.b c.args.second.now c.args.b.arcs c.loop-i.i c.loop-i.at c.loop-i-test.false) at (c.loop-i.invariant.2 c.args.b.states k))),
+      λ k. rw (e k, valid-arcs _ _ c.requires.files.second) (Uncounted-none (rw (joint_none c.args.b.states k x new c.args.b c.args.second.now c.args.b.arcs c.loop-i._i c.loop-i.at c.loop-i-test.false) at (c.loop-i.invariant.1 c.args.b.states k))),
       (small c).0,
       omega (arith, small c),
     )

@@ -11,7 +11,4 @@ use Rattle.join_product_count.proofs.Uncounted.{Uncounted, counted}
 use Rattle.join_product_count.proofs.count_joint.Given as goal
 
 abbrev pub invariant-loop-i : goal.invariant-loop-i
-invariant-loop-i l = (l.i ≤ l.b.arcs) × Walk l.b l.second (l.b.arcs - l.i) l.at × ((n k : ℕ) → Uncounted (counted l.arcs l.sum l.most) (joint_with n k (map (relettered_arc (numbers_by l.first l.others)) (arcs_of (l.b.arcs - l.i) (drop l.at l.second))) (arc_of (drop l.from l.first))) (joint_with n k (map (relettered_arc (numbers_by l.first l.others)) (arcs_of l.b.arcs (drop (first_arc l.b) l.second))) (arc_of (drop l.from l.first)))) × (l.arcs ≤ l.i) × (l.sum ≤ 510 * l.i)
-
-abbrev pub decreases-loop-i : goal.decreases-loop-i
-decreases-loop-i l = l.b.arcs - l.i
+invariant-loop-i l = Walk l.fn.b l.second (l.fn.b.arcs - l._i) l.at × ((n k : ℕ) → Uncounted (counted l.arcs l.sum l.most) (joint_with n k (map (relettered_arc (numbers_by l.first l.others)) (arcs_of (l.fn.b.arcs - l._i) (drop l.at l.second))) (arc_of (drop l.from l.first))) (joint_with n k (map (relettered_arc (numbers_by l.first l.others)) (arcs_of l.fn.b.arcs (drop (first_arc l.fn.b) l.second))) (arc_of (drop l.from l.first)))) × (l.arcs ≤ l._i) × (l.sum ≤ 510 * l._i)

@@ -1,11 +1,5 @@
--- `line_comparison::answer_line` meets its contract: the line is that of the kind of answer.
+use Rattle.line_comparison.proofs.TellingLaws.{answer_told}
 use Rattle.line_comparison.proofs.answer_line.Goals as goal
 
-pub returns-in-Same : goal.returns-in-Same
-returns-in-Same c = rw c.in-Same.is c.same_line.ensures
-
-pub returns-in-Different : goal.returns-in-Different
-returns-in-Different c = rw c.in-Different.is c.taker_line.ensures
-
-pub returns-in-Refused : goal.returns-in-Refused
-returns-in-Refused c = rw c.in-Refused.is c.refusal_line.ensures
+pub returns : goal.returns
+returns c = rw (← answer_told c.args.r c.args.word.now) c.told_line.ensures

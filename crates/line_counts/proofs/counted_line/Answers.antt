@@ -1,6 +1,7 @@
 -- `line_counts::counted_line` meets its contract: each field is written behind the one before, the newline behind the last.
+use Rattle.std.proofs.Common.{rules}
 use Rattle.line_text.proofs.Laws.{then}
 use Rattle.line_counts.proofs.counted_line.Goals as goal
 
 pub returns : goal.returns
-returns c = then c.put-at.ensures (then c.decimal_field-at.ensures (then c.decimal_field-at-2.ensures c.put_byte.ensures))
+returns c = search (rules, then c.put.ensures.0 (then c.decimal_field.ensures.0 (then c.decimal_field-2.ensures.0 c.put_byte.ensures.0)))

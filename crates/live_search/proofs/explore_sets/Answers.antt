@@ -23,7 +23,7 @@ filled : (f : goal.After-fill) → Kept f.args.t.rows (f.args.acc + 256) f.args.
 filled f = kept-wider (omega (arith, f.requires.tabled.before)) (omega (arith, f.requires.behind)) f.fill.ensures.kept
 
 pub add_row-requires : goal.add_row-requires
-add_row-requires c = record { n_bound = (omega arith, omega arith); tabled = (tabled-kept (filled (goal.at.add_row-requires c).After-fill) c.requires.tabled, (chain-start _ _ _ _ _ (λ i h. c.fill.ensures.set i (omega arith)), λ _. refl)) }
+add_row-requires c = (omega arith, ((omega arith, omega arith), (c.requires.one, (tabled-kept (filled (goal.at.add_row-requires c).After-fill) c.requires.tabled, chain-start _ _ _ _ _ (λ i h. c.fill.ensures.set i (omega arith))))))
 
 -- the start set is written into the table
 started : (d : goal.After-add_row) → Kept d.args.t.rows (d.args.acc + 256) d.fill.new.w d.add_row.new.w

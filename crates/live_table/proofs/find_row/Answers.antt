@@ -1,47 +1,19 @@
 use native.Mathlib.Omega.{arith}
-use mathlib.Core.Path.{◌∙◌, ap, subst, sym}
-use Prim.Native.Nat.{◌+◌, ◌<◌, ◌%◌}
+use mathlib.Core.Path.{refl, subst}
 use lib.Dec.{T}
-use Rattle.word_fields.specs.Fields.{field}
-use Rattle.word_fields.proofs.Laws.{Looked, found-hit, Looked-end, Looked-more, Looked-start}
-use Rattle.word_layout.specs.Layout.{heads_at}
-use Rattle.live_table.specs.SetRows.{RowAt, key_of, left_row, right_row}
+use Rattle.word_fields.proofs.Laws.{Looked-end, Looked-more}
+use Rattle.live_table.specs.SetRows.{first_set, last_set}
 use Rattle.live_table.proofs.AddRow.{same_key_lem}
 use Rattle.live_table.proofs.find_row.Goals as goal
-use Rattle.live_table.proofs.find_row.Goals.{After-get16-g-in-loop-g}
-
-pub overflow_add-t : goal.overflow_add-t
-overflow_add-t c = omega (arith, c.requires.1.0.long)
-
-pub get16-g-requires : goal.get16-g-requires
-get16-g-requires c = omega (arith, c.key_of.ensures.1, c.requires.1.0.long)
-
-pub loop-g-init : goal.loop-g-init
-loop-g-init c = Looked-start c.requires.1.1 (omega arith) (same_key_lem c.args.t c.args.w.now c.args.u c.args.v) (omega (arith, c.key_of.ensures)) (c.get16-g.ensures.0 ∙ ap (field c.args.w.now (heads_at c.args.t)) c.key_of.ensures.0)
-
-pub is_row-requires : goal.is_row-requires
-is_row-requires c = (omega arith, c.requires.1.0)
-
-pub returns-then-is_row : goal.returns-then-is_row
-returns-then-is_row c = found-hit c.loop-g-test.true (c.is_row.ensures.0 (subst T (sym c.if-is_row.true) tt))
-
-pub overflow_add-t-in-loop-g : goal.overflow_add-t-in-loop-g
-overflow_add-t-in-loop-g c = omega (arith, c.requires.1.0.long)
-
-pub get16-g-requires-in-loop-g : goal.get16-g-requires-in-loop-g
-get16-g-requires-in-loop-g c = omega (arith, c.requires.1.0.long)
 
 -- the row at g is none of what is looked for: on to the next of the chain
-more : (c : goal.After-get16-g-in-loop-g) → Looked (λ i. key_of (left_row c.args.t c.args.w.now i) (right_row c.args.t c.args.w.now i)) (key_of c.args.u c.args.v) (RowAt c.args.t c.args.w.now c.args.u c.args.v) c.args.n c.get16-g-in-loop-g.result
-    × ((c.get16-g-in-loop-g.result + 1) % 65536 < (c.loop-g.g + 1) % 65536)
-more c = Looked-more c.requires.1.1 (omega arith) (same_key_lem c.args.t c.args.w.now c.args.u c.args.v) c.loop-g-test.true (λ d. subst T c.if-is_row.false (c.is_row.ensures.1 d))
-    c.get16-g-in-loop-g.ensures.0 c.loop-g.invariant
-
-pub returns : goal.returns
-returns c = Looked-end c.requires.1.1 (omega arith) (same_key_lem c.args.t c.args.w.now c.args.u c.args.v) c.loop-g-test.false c.loop-g.invariant
-
 pub loop-g-smaller : goal.loop-g-smaller
-loop-g-smaller c = (more c).1
+loop-g-smaller g c = (Looked-more c.requires.1.1 (omega arith) (same_key_lem c.args.t c.args.w.now (first_set c.args.sets) (last_set c.args.sets)) c.loop-g-test.true (λ d. subst T c.if-is_row.false (c.is_row.ensures.1 d))
+    c.get16-g-in-loop-g.ensures.0 c.loop-g.invariant).1
 
 pub loop-g-preserved : goal.loop-g-preserved
-loop-g-preserved c = (more c).0
+loop-g-preserved g c = (Looked-more c.requires.1.1 (omega arith) (same_key_lem c.args.t c.args.w.now (first_set c.args.sets) (last_set c.args.sets)) c.loop-g-test.true (λ d. subst T c.if-is_row.false (c.is_row.ensures.1 d))
+    c.get16-g-in-loop-g.ensures.0 c.loop-g.invariant).0
+
+pub returns : goal.returns
+returns g c = (Looked-end c.requires.1.1 (omega arith) (same_key_lem c.args.t c.args.w.now (first_set c.args.sets) (last_set c.args.sets)) c.loop-g-test.false c.loop-g.invariant).miss refl

@@ -2,11 +2,11 @@
 -- is looked for (Looked of crate word_fields).
 use Prim.Native.Nat.{◌+◌, ◌%◌}
 use Rattle.word_fields.proofs.Laws.{Looked}
-use Rattle.live_table.specs.SetRows.{RowAt, key_of, left_row, right_row}
+use Rattle.live_table.specs.SetRows.{RowAt, first_set, key_of, last_set, left_row, right_row}
 use Rattle.live_table.proofs.find_row.Given as goal
 
 abbrev pub invariant-loop-g : goal.invariant-loop-g
-invariant-loop-g l = Looked (λ i. key_of (left_row l.t l.w i) (right_row l.t l.w i)) (key_of l.u l.v) (RowAt l.t l.w l.u l.v) l.n l.g
+invariant-loop-g g l = Looked (λ i. key_of (left_row l.t l.w i) (right_row l.t l.w i)) (key_of (first_set l.sets) (last_set l.sets)) (RowAt l.t l.w (first_set l.sets) (last_set l.sets)) l.n l.g
 
 abbrev pub decreases-loop-g : goal.decreases-loop-g
-decreases-loop-g l = (l.g + 1) % 65536
+decreases-loop-g g l = (l.g + 1) % 65536

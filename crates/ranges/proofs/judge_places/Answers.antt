@@ -1,5 +1,6 @@
 -- `ranges::judge_places` meets its contract: there are too many live sets behind one of the places, or those behind the last one are judged.
-use mathlib.Core.Path.{◌∙◌}
+use mathlib.Core.Path.{◌∙◌, ap}
+use Rattle.std.specs.Prelude.{Err}
 use mathlib.Core.Logic.{inl}
 use mathlib.Core.List.{[], ◌∷◌}
 use native.Mathlib.Omega.{arith}
@@ -44,17 +45,17 @@ walked e = let first' : SetsIn e.args.file.now before_table e.store.new.w 1 (liv
 
 -- too many live sets
 pub returns-in_default : goal.returns-in_default
-returns-in_default c = record { same = c.walk_places.ensures.same ∙ c.store.ensures.kept.long; answer = Walked-over c.args.file.now c.walk_places.new.w c.walk_places.result c.args.places.now (walked (goal.at.returns-in_default c).After-walk_places) c.in_default.is }
+returns-in_default c = record { same = c.walk_places.ensures.same ∙ c.store.ensures.kept.long; answer = ap Err c.of_call.ensures ∙ Walked-over c.args.file.now c.walk_places.new.w c.walk_places.result c.args.places.now (walked (goal.at.returns-in_default c).After-walk_places) c.in_default.is }
 
 pub judge-requires : goal.judge-requires
 judge-requires c = (
-  Walked-few c.args.file.now c.walk_places.new.w c.walk_places.result c.args.places.now (walked (goal.at.judge-requires c).After-walk_places) c.in-Total.is,
+  Walked-few c.args.file.now c.walk_places.new.w c.walk_places.result c.args.places.now (walked (goal.at.judge-requires c).After-walk_places) c.in-Some.is,
   omega (arith, c.requires.0.enough, c.walk_places.ensures.same, c.store.ensures.kept.long),
 )
 
 pub returns : goal.returns
 returns c = record {
   same = c.walk_places.ensures.same ∙ c.store.ensures.kept.long;
-  answer = Walked-judged c.args.file.now c.walk_places.new.w c.walk_places.result c.args.places.now (walked (goal.at.returns c).After-walk_places) c.in-Total.is
+  answer = Walked-judged c.args.file.now c.walk_places.new.w c.walk_places.result c.args.places.now (walked (goal.at.returns c).After-walk_places) c.in-Some.is
       c.final_configurations-finals.result c.requires.0.stands c.final_configurations-finals.ensures c.judge.ensures;
 }

@@ -1,13 +1,6 @@
-use mathlib.Core.Path.{◌∙◌, sym}
-use native.Mathlib.Omega.{arith}
+use Rattle.std.proofs.Common.{◌∙◌, arith, sym}
 use Rattle.ranges.proofs.SetTests.{none-asked, none_more, one-asked, row-asked}
 use Rattle.ranges.proofs.some_set.Goals as goal
-
-pub loop-i-init : goal.loop-i-init
-loop-i-init c = (omega arith, λ count j h v. absurd (omega arith))
-
-pub load-requires : goal.load-requires
-load-requires c = omega (arith, c.requires.0, c.requires.1, c.loop-i-test.true)
 
 -- this row is
 pub returns-then-meets-accepted : goal.returns-then-meets-accepted
@@ -15,11 +8,8 @@ returns-then-meets-accepted c count arcs sets h = one-asked c.args.w.now c.args.
 
 -- nor is this row
 pub loop-i-preserved : goal.loop-i-preserved
-loop-i-preserved c = (
-  omega (arith, c.loop-i-test.true),
-  none_more c.args.w.now c.args.finals c.args.accepted c.loop-i.invariant.1
-      (λ count v. sym (row-asked c.args.w.now c.args.finals c.args.accepted c.loop-i.i c.meets.result c.load.ensures c.meets.ensures count v) ∙ c.if-meets-accepted.false),
-)
+loop-i-preserved c = none_more c.args.w.now c.args.finals c.args.accepted c.loop-i.invariant
+    (λ count v. sym (row-asked c.args.w.now c.args.finals c.args.accepted c.loop-i.i c.meets.result c.load.ensures c.meets.ensures count v) ∙ c.if-meets-accepted.false)
 
 pub returns : goal.returns
-returns c count arcs sets h = none-asked c.args.w.now c.args.finals c.args.accepted count h (λ k j b v. c.loop-i.invariant.1 k j (omega (arith, c.loop-i-test.false)) v)
+returns c count arcs sets h = none-asked c.args.w.now c.args.finals c.args.accepted count h (λ k j b v. c.loop-i.invariant k j (omega (arith, c.loop-i-test.false)) v)

@@ -28,19 +28,16 @@ looped l = let filled' : Kept set_rows (letter_sets + 256) l.args.w.now l.fill.n
 pub expand-requires : goal.expand-requires
 expand-requires c = record { ready = (ready-kept c.requires.0 (inr (omega arith)) (looped (goal.at.expand-requires c).At-loop-i), omega (arith, c.requires.1.0)); i_bound = (omega (arith, c.requires.1.1), c.loop-i.invariant.chained) }
 
-pub shape_of-w-in-TooMany : goal.shape_of-w-in-TooMany
-shape_of-w-in-TooMany c = c.expand.ensures.kept.long ∙ (looped (goal.at.shape_of-w-in-TooMany c).At-loop-i).long
-
-pub returns-in-TooMany : goal.returns-in-TooMany
-returns-in-TooMany c = record {
-  kept = kept_then (looped (goal.at.returns-in-TooMany c).At-loop-i) c.expand.ensures.kept;
+pub returns-in_err-behind : goal.returns-in_err-behind
+returns-in_err-behind c = rw c.from_residual.ensures (record {
+  kept = kept_then (looped (goal.at.returns-in_err-behind c).At-loop-i) c.expand.ensures.kept;
   chained = tt;
-  meets = λ sets h. Expanded-over _ _ _ _ c.requires.1.1 c.expand.result c.loop-i-test.true c.loop-i.invariant c.expand.ensures.kept c.expand.ensures.chained c.expand.ensures.meets c.in-TooMany.is sets
-      (before-kept c.args.file.now c.requires.1.1 (omega arith) (filled (goal.at.returns-in-TooMany c).After-fill) h);
-}
+  meets = λ sets h. Expanded-over _ _ _ _ c.requires.1.1 c.expand.result c.loop-i-test.true c.loop-i.invariant c.expand.ensures.kept c.expand.ensures.chained c.expand.ensures.meets c.in_err-behind.was sets
+      (before-kept c.args.file.now c.requires.1.1 (omega arith) (filled (goal.at.returns-in_err-behind c).After-fill) h);
+})
 
 pub loop-i-preserved : goal.loop-i-preserved
-loop-i-preserved c = Expanded-more _ _ _ _ c.requires.1.1 c.expand.result c.loop-i-test.true c.loop-i.invariant c.expand.ensures.kept c.expand.ensures.chained c.expand.ensures.meets c.in-Total.is
+loop-i-preserved c = Expanded-more _ _ _ _ c.requires.1.1 c.expand.result c.loop-i-test.true c.loop-i.invariant c.expand.ensures.kept c.expand.ensures.chained c.expand.ensures.meets c.in_ok-behind.was
 
 pub shape_of-w : goal.shape_of-w
 shape_of-w c = (looped (goal.at.shape_of-w c).At-loop-i).long

@@ -16,11 +16,8 @@ pub step_letters-met-requires : goal.step_letters-met-requires
 step_letters-met-requires c = (ready-steps c.requires.ready.0, omega arith)
 
 pub meet_letters-requires : goal.meet_letters-requires
-meet_letters-requires c = let m = subst (Meetable c.step_letters-met.new.w c.args.n c.step_letters-met.result) (sym c.set_table.ensures) (meetable c.requires.ready.0.enough c.requires.i_bound.1.0 c.step_letters-met.ensures.kept c.step_letters-met.result c.requires.i_bound.1.1) in record {
-  end_bound = (omega (arith, c.requires.ready.1, (ready-steps c.requires.ready.0).walkable.letters), (omega arith, c.requires.i_bound.1.0));
-  tabled = m.0;
-  row_chain = m.1;
-}
+meet_letters-requires c = let m = subst (Meetable c.step_letters-met.new.w c.args.n) (sym c.set_table.ensures) (meetable c.requires.ready.0.enough c.requires.i_bound.1.0 c.step_letters-met.ensures.kept c.requires.i_bound.1.1) in
+    (omega arith, (omega arith, ((omega (arith, c.requires.ready.1, (ready-steps c.requires.ready.0).walkable.letters), (omega arith, c.requires.i_bound.1.0)), (m.0, m.1))))
 
 pub returns : goal.returns
 returns c = let sets = set_of c.step_letters-met.new.w letter_sets c.step_letters-met.result in

@@ -4,4 +4,4 @@ use Rattle.registered_automata.specs.Results.{written_fields}
 use Rattle.registered_automata.proofs.ra_close.Goals as goal
 
 pub returns : goal.returns
-returns c = record { answer = c.as_written.ensures ∙ ap written_fields c.close.ensures.answer; output = rw (← c.close.ensures.answer) c.close.ensures.output }
+returns c = record { answer = c.into.ensures ∙ ap written_fields c.close.ensures.answer; output = rw (← c.close.ensures.answer) c.close.ensures.output }

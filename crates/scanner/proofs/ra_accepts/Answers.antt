@@ -4,4 +4,4 @@ use Rattle.scanner.specs.Results.{membership_fields}
 use Rattle.scanner.proofs.ra_accepts.Goals as goal
 
 pub returns : goal.returns
-returns c = record { same = c.accepts.ensures.same; answer = c.as_membership.ensures ∙ ap membership_fields c.accepts.ensures.answer }
+returns c = record { same = c.accepts.ensures.same; answer = c.into.ensures ∙ ap membership_fields c.accepts.ensures.answer }

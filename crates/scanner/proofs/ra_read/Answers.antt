@@ -4,4 +4,4 @@ use Rattle.scanner.specs.Results.{reading_fields}
 use Rattle.scanner.proofs.ra_read.Goals as goal
 
 pub returns : goal.returns
-returns c = c.as_reading.ensures ∙ ap reading_fields c.read.ensures
+returns c = c.into.ensures ∙ ap reading_fields c.read.ensures

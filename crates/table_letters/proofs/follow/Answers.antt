@@ -10,23 +10,8 @@ use Rattle.table_sets.proofs.Laws.{led}
 use Rattle.table_letters.proofs.FollowSources.{Visited, sources-onward, Visited-more, Visited-start}
 use Rattle.table_letters.proofs.follow.Goals as goal
 
-pub overflow_add-l : goal.overflow_add-l
-overflow_add-l c = omega (arith, c.requires.1, c.requires.0.small)
-
-pub load-requires : goal.load-requires
-load-requires c = omega (arith, c.requires.1, c.requires.0.small, c.requires.0.room)
-
 pub loop-q-init : goal.loop-q-init
 loop-q-init c = (omega arith, Visited-start _ _ _ _ _ _ c.empty-out.ensures)
-
-pub overflow_add-l-in-loop-q : goal.overflow_add-l-in-loop-q
-overflow_add-l-in-loop-q c = omega (arith, c.requires.1, c.requires.0.small)
-
-pub overflow_mul-l : goal.overflow_mul-l
-overflow_mul-l c = omega (arith, c.requires.1, c.requires.0.small)
-
-pub overflow_add-l-in-loop-q-2 : goal.overflow_add-l-in-loop-q-2
-overflow_add-l-in-loop-q-2 c = omega (arith, c.requires.1, c.requires.0.small, c.loop-q-test.true)
 
 pub follow_word-more-requires : goal.follow_word-more-requires
 follow_word-more-requires c = (c.requires.0, omega (arith, c.requires.1, c.loop-q-test.true))
@@ -42,18 +27,3 @@ returns c = let e : c.loop-q.q ≡ 4 = omega (arith, c.loop-q-test.false, c.loop
     led _ c.loop-q.out (omega arith) c.args.letters arcs held settled c.args.l c.requires.1
     (sources-onward c.args.set c.common-sources.result c.requires.0 c.requires.1 settled.0
     (λ j. c.common-sources.ensures j ∙ ap (λ (r : List ℕ). in_set c.args.set j && in_set r j) c.load.ensures) done)
-
-pub overflow_mul-q : goal.overflow_mul-q
-overflow_mul-q c = omega (arith, c.loop-q-test.true)
-
-pub offset_bounds-sources-q : goal.offset_bounds-sources-q
-offset_bounds-sources-q c = omega (arith, c.loop-q-test.true)
-
-pub bounds-sources-q : goal.bounds-sources-q
-bounds-sources-q c = omega (arith, c.loop-q-test.true)
-
-pub overflow_add-q : goal.overflow_add-q
-overflow_add-q c = omega (arith, c.loop-q-test.true)
-
-pub loop-q-smaller : goal.loop-q-smaller
-loop-q-smaller c = omega (arith, c.loop-q-test.true)

@@ -1,10 +1,7 @@
 -- `table_letters::follow` meets its contract. The loop's invariant: the sources that stand in the first q words have been visited (Visited).
-use Prim.Native.Nat.{◌*◌, ◌+◌, ◌-◌, ◌≤◌}
+use Prim.Native.Nat.{◌*◌, ◌+◌, ◌≤◌}
 use Rattle.table_letters.proofs.FollowSources.{Visited}
 use Rattle.table_letters.proofs.follow.Given as goal
 
 abbrev pub invariant-loop-q : goal.invariant-loop-q
-invariant-loop-q l = (l.q ≤ 4) × Visited l.letters l.w l.block (256 * (l.l + 1)) l.sources l.out l.q
-
-abbrev pub decreases-loop-q : goal.decreases-loop-q
-decreases-loop-q l = 4 - l.q
+invariant-loop-q l = (l.q ≤ 4) × Visited l.letters l.w l.block (256 * (l.l + 1)) l.word-items l.out l.q

@@ -1,23 +1,10 @@
 use mathlib.Core.Path.{refl}
-use native.Mathlib.Omega.{arith}
 use Rattle.word_rows.specs.Rows.{related}
 use Rattle.table_letters.proofs.FollowChain.{Following-end, Following-less, Following-more, Following-start}
 use Rattle.table_letters.proofs.follow_chain.Goals as goal
 
-pub get16-k-requires : goal.get16-k-requires
-get16-k-requires c = omega (arith, c.requires.1, c.requires.0.small, c.requires.0.room)
-
 pub loop-k-init : goal.loop-k-init
 loop-k-init c = Following-start _ c.requires.0 c.requires.1 c.get16-k.ensures.0
-
-pub listed_arc-arc-requires : goal.listed_arc-arc-requires
-listed_arc-arc-requires c = omega (arith, c.loop-k-test.true, c.requires.0.few, c.requires.0.above, c.requires.0.room)
-
-pub load-requires : goal.load-requires
-load-requires c = omega (arith, c.requires.0.above, c.requires.0.room)
-
-pub get16-k-requires-in-loop-k : goal.get16-k-requires-in-loop-k
-get16-k-requires-in-loop-k c = omega (arith, c.loop-k-test.true, c.requires.0.few, c.requires.0.room)
 
 pub loop-k-smaller : goal.loop-k-smaller
 loop-k-smaller c = Following-less c.loop-k.invariant c.requires.0 c.loop-k-test.true c.get16-k-in-loop-k.ensures.0

@@ -5,20 +5,11 @@ use Rattle.table_letters.proofs.follow_word.Goals as goal
 pub loop-left-init : goal.loop-left-init
 loop-left-init c = Taking-start _ _ _ _ _ _
 
-pub lowest-c-requires : goal.lowest-c-requires
-lowest-c-requires c = omega (arith, c.loop-left-test.true)
-
-pub overflow_add-key : goal.overflow_add-key
-overflow_add-key c = omega (arith, c.requires.1, c.requires.0.small, c.lowest-c.ensures.0)
-
 pub follow_chain-more-requires : goal.follow_chain-more-requires
 follow_chain-more-requires c = (c.requires.0, omega (arith, c.requires.1, c.lowest-c.ensures.0))
 
 pub without_lowest-left-requires : goal.without_lowest-left-requires
 without_lowest-left-requires c = (c.lowest-c.ensures.1, c.lowest-c.ensures.2)
-
-pub loop-left-smaller : goal.loop-left-smaller
-loop-left-smaller c = c.without_lowest-left.ensures.less
 
 pub loop-left-preserved : goal.loop-left-preserved
 loop-left-preserved c = Taking-more c.loop-left.invariant c.lowest-c.result c.follow_chain-more.result c.without_lowest-left.result c.lowest-c.ensures.1 c.follow_chain-more.ensures c.without_lowest-left.ensures.digits

@@ -4,21 +4,6 @@ use Rattle.table_letters.proofs.LinkLetters.{Beyond, cleared-beyond, Linking-end
 use Rattle.table_letters.proofs.link.Goals as goal
 use Rattle.table_letters.proofs.link.Goals.{At-loop-c}
 
-pub overflow_mul-letters : goal.overflow_mul-letters
-overflow_mul-letters c = omega (arith, c.requires.0)
-
-pub overflow_add-letters : goal.overflow_add-letters
-overflow_add-letters c = omega (arith, c.requires.0)
-
-pub fill-requires : goal.fill-requires
-fill-requires c = omega (arith, c.requires.0, c.requires.1.1.1.1.0)
-
-pub overflow_add-letters-2 : goal.overflow_add-letters-2
-overflow_add-letters-2 c = omega (arith, c.requires.0)
-
-pub clear_rows-requires : goal.clear_rows-requires
-clear_rows-requires c = omega (arith, c.requires.0, c.requires.1.1.1.1.0, c.fill.ensures.kept.long)
-
 pub loop-c-init : goal.loop-c-init
 loop-c-init c = Linking-start _ c.requires.0 c.requires.1.1.0 c.requires.1.1.1.0 c.requires.1.1.1.1.1.0 c.requires.1.1.1.1.1.1 c.fill.ensures.kept c.fill.ensures.set c.clear_rows.ensures.kept
 
@@ -29,18 +14,9 @@ kept l = but_then (cleared-beyond l.requires.0 l.fill.ensures.kept l.clear_rows.
 pub first_arc-from-requires : goal.first_arc-from-requires
 first_arc-from-requires c = omega (arith, c.loop-c-test.true, c.requires.1.1.1, c.loop-c.invariant.listed.few, (kept (goal.at.first_arc-from-requires c).At-loop-c).long)
 
-pub end_of-to-requires : goal.end_of-to-requires
-end_of-to-requires c = (c.loop-c-test.true, (c.loop-c.invariant.listed.few, omega (arith, c.requires.1.1.1, (kept (goal.at.end_of-to-requires c).At-loop-c).long)))
-
 pub link_one-requires : goal.link_one-requires
 link_one-requires c = let r = Linking-range c.requires.1.1.0 c.requires.1.1.1.0 c.loop-c-test.true c.loop-c.invariant c.first_arc-from.ensures c.end_of-to.ensures in
     (c.requires.0, (c.requires.1.1.0, (c.requires.1.1.1.0, (omega (arith, c.requires.1.1.1.1.0, (kept (goal.at.link_one-requires c).At-loop-c).long), (c.loop-c.invariant.listed.few, (omega (arith, c.loop-c-test.true, c.loop-c.invariant.listed.few), (r.0, (r.1, Linking-sources c.requires.1.1.0 c.requires.1.1.1.0 c.loop-c-test.true c.loop-c.invariant c.first_arc-from.ensures c.end_of-to.ensures))))))))
-
-pub overflow_add-c : goal.overflow_add-c
-overflow_add-c c = omega (arith, c.loop-c-test.true, c.loop-c.invariant.listed.few)
-
-pub loop-c-smaller : goal.loop-c-smaller
-loop-c-smaller c = omega (arith, c.loop-c-test.true)
 
 pub loop-c-preserved : goal.loop-c-preserved
 loop-c-preserved c = Linking-more c.requires.1.1.0 c.requires.1.1.1.0 c.loop-c-test.true c.loop-c.invariant c.first_arc-from.ensures c.end_of-to.ensures c.link_one.ensures.kept c.link_one.ensures.linked

@@ -1,10 +1,6 @@
 -- `table_letters::link_one` meets its contract. The loop's invariant: the arcs from `from` to before k have joined (LinkingOne).
-use Prim.Native.Nat.{◌-◌}
 use Rattle.table_letters.proofs.LinkLetters.{LinkingOne}
 use Rattle.table_letters.proofs.link_one.Given as goal
 
 abbrev pub invariant-loop-k : goal.invariant-loop-k
 invariant-loop-k l = LinkingOne l.letters l.initial.w l.block l.from l.to l.w l.k
-
-abbrev pub decreases-loop-k : goal.decreases-loop-k
-decreases-loop-k l = l.to - l.k

@@ -19,23 +19,11 @@ end_of-to-requires c = omega (arith, room_at (goal.at.end_of-to-requires c).In-l
 pub visit-met-requires : goal.visit-met-requires
 visit-met-requires c = (omega (arith, c.end_of-to.ensures, end_kept (block-kept c.loop-c.invariant.kept c.requires.0.apart) c.args.block.count c.args.block.plain c.loop-c.c c.requires.1.few, end-few c.loop-c.c c.requires.1), room_at (goal.at.visit-met-requires c).In-loop-c)
 
-pub overflow_add-c : goal.overflow_add-c
-overflow_add-c c = omega (arith, c.loop-c-test.true)
-
-pub next_live-c-requires-in-loop-c : goal.next_live-c-requires-in-loop-c
-next_live-c-requires-in-loop-c c = omega (arith, c.loop-c-test.true, c.requires.1.few)
-
-pub loop-c-smaller : goal.loop-c-smaller
-loop-c-smaller c = omega (arith, c.loop-c-test.true, c.requires.1.few, c.next_live-c-in-loop-c.ensures.low)
-
 pub loop-c-preserved : goal.loop-c-preserved
 loop-c-preserved c = Stepping-more (FromList c.args.w.now c.args.block.base c.args.block.count c.args.block.plain)
     {Own = Among c.loop-c.w c.args.block.base c.first_arc-from.result c.end_of-to.result} c.visit-met.result (omega (arith, c.loop-c-test.true, c.requires.1.few)) c.loop-c.invariant c.visit-met.ensures.kept c.visit-met.ensures.set
     (list-kept (block-kept c.loop-c.invariant.kept c.requires.0.apart) c.loop-c.c c.requires.1 c.loop-c-test.true c.first_arc-from.ensures c.end_of-to.ensures)
     c.next_live-c-in-loop-c.ensures
-
-pub shape_of-w : goal.shape_of-w
-shape_of-w c = c.loop-c.invariant.kept.long
 
 pub returns : goal.returns
 returns c = record { kept = c.loop-c.invariant.kept; set = λ letters arcs t. stepped _ c.loop-c-test.false c.loop-c.invariant letters arcs (t.held c.requires.1.less) }

@@ -15,7 +15,7 @@ use Rattle.table_live.proofs.letter_of.Goals.{After-get16}
 
 -- what is read
 told : (c : goal.After-get16) (alphabet : List ℕ) → LetterNumbers alphabet c.args.w.now → c.get16.result ≡ last (key_at alphabet) (key c.args.byte) (length alphabet)
-told c alphabet numbers = c.get16.ensures.0 ∙ ap (field c.args.w.now byte_letters) c.key_of.ensures ∙ numbers (key c.args.byte) (omega (arith, c.key_of.ensures))
+told c alphabet numbers = c.get16.ensures.0 ∙ ap (field c.args.w.now byte_letters) (c.from.ensures ∙ c.key_of.ensures) ∙ numbers (key c.args.byte) (omega (arith, c.key_of.ensures))
 
 pub returns : goal.returns
 returns c = record { letter = λ alphabet numbers apart few. told-some alphabet apart few c.args.byte (told c alphabet numbers); none = λ alphabet numbers apart few. told_none alphabet apart few c.args.byte (told c alphabet numbers) }

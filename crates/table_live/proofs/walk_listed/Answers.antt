@@ -31,28 +31,28 @@ module _ (w : List ℕ) (byte r letters : ℕ)
       go (yes u) = absurd (omega (arith, letter-lt _ _ _ (told alphabet numbers apart (omega arith) u)))
       go (no u) = lacks alphabet numbers apart (omega arith) (omega arith)
 
-pub loop-i-init : goal.loop-i-init
-loop-i-init c = (omega arith, λ alphabet arcs numbers apart many held closed. walking_start closed)
+pub loop-byte-init : goal.loop-byte-init
+loop-byte-init c = (omega arith, λ alphabet arcs numbers apart many held closed. walking_start closed)
 
 pub letter_of-l-requires : goal.letter_of-l-requires
 letter_of-l-requires c = c.requires.room
 
 pub returns-then-letters-l : goal.returns-then-letters-l
-returns-then-letters-l c alphabet arcs numbers apart many held closed = walking-foreign (c.loop-i.invariant.1 alphabet arcs numbers apart many held closed) c.loop-i-test.true (foreign _ _ _ _ c.letter_of-l.ensures.letter alphabet numbers apart many c.requires.small c.letter_of-l.ensures.none c.if-letters-l.true)
+returns-then-letters-l c alphabet arcs numbers apart many held closed = walking-foreign (c.loop-byte.invariant.1 alphabet arcs numbers apart many held closed) c.loop-byte-test.true (foreign _ _ _ _ c.letter_of-l.ensures.letter alphabet numbers apart many c.requires.small c.letter_of-l.ensures.none c.if-letters-l.true)
 
 -- ---- a step
 pub follow-next-requires : goal.follow-next-requires
 follow-next-requires c = (c.requires, c.if-letters-l.false)
 
-stepped : (f : goal.After-follow-next) → Leads f.args.word.now f.args.w.now f.args.block f.args.letters f.args.from f.follow-next.result (f.loop-i.i + 1)
-stepped f alphabet arcs numbers apart many held closed = let v = f.loop-i.invariant.1 alphabet arcs numbers apart many held closed in
-    walking-more v f.loop-i-test.true (letter _ _ _ _ f.letter_of-l.ensures.letter alphabet numbers apart many f.requires.small f.if-letters-l.false) (f.follow-next.ensures arcs held v.closed)
+stepped : (f : goal.After-follow-next) → Leads f.args.word.now f.args.w.now f.args.block f.args.letters f.args.from f.follow-next.result (f.loop-byte.byte-index + 1)
+stepped f alphabet arcs numbers apart many held closed = let v = f.loop-byte.invariant.1 alphabet arcs numbers apart many held closed in
+    walking-more v f.loop-byte-test.true (letter _ _ _ _ f.letter_of-l.ensures.letter alphabet numbers apart many f.requires.small f.if-letters-l.false) (f.follow-next.ensures arcs held v.closed)
 
 pub returns-then-is_empty : goal.returns-then-is_empty
 returns-then-is_empty c alphabet arcs numbers apart many held closed = walking-nothing (stepped (goal.at.returns-then-is_empty c).After-follow-next alphabet arcs numbers apart many held closed) (c.is_empty.ensures.0 (subst T (sym c.if-is_empty.true) tt))
 
-pub loop-i-preserved : goal.loop-i-preserved
-loop-i-preserved c = (omega (arith, c.loop-i-test.true), stepped (goal.at.loop-i-preserved c).After-follow-next)
+pub loop-byte-preserved : goal.loop-byte-preserved
+loop-byte-preserved c = (omega (arith, c.loop-byte-test.true), stepped (goal.at.loop-byte-preserved c).After-follow-next)
 
 pub returns : goal.returns
-returns c alphabet arcs numbers apart many held closed = walking-end (c.loop-i.invariant.1 alphabet arcs numbers apart many held closed) c.loop-i-test.false
+returns c alphabet arcs numbers apart many held closed = walking-end (c.loop-byte.invariant.1 alphabet arcs numbers apart many held closed) c.loop-byte-test.false

@@ -2,7 +2,7 @@
 -- from the first one (Walking of proofs/WalkWord.antt), for all letters and plain arcs that the words tell.
 use mathlib.Core.Path.{◌≡◌}
 use mathlib.Core.List.{List}
-use Prim.Native.Nat.{ℕ, ◌-◌, ◌≤◌}
+use Prim.Native.Nat.{ℕ, ◌≤◌}
 use lib.ListN.{length}
 use Rattle.automata.specs.Counting.{Apart}
 use Rattle.automata.specs.Letters.{keys}
@@ -19,8 +19,5 @@ Leads word w block letters set₀ set i =
     (alphabet : List ℕ) (arcs : List PlainArc) → LetterNumbers alphabet w → Apart (keys alphabet) → length alphabet ≡ letters
     → Held block.count letters arcs (FromList w block.base block.count block.plain) → ε_closed_set block.count arcs set₀ → Walking alphabet arcs block.count word set₀ set i
 
-abbrev pub invariant-loop-i : goal.invariant-loop-i
-invariant-loop-i l = (l.i ≤ length l.word) × Leads l.word l.w l.block l.letters l.initial.set l.set l.i
-
-abbrev pub decreases-loop-i : goal.decreases-loop-i
-decreases-loop-i l = length l.word - l.i
+abbrev pub invariant-loop-byte : goal.invariant-loop-byte
+invariant-loop-byte l = (l.byte-index ≤ length l.word) × Leads l.word l.w l.block l.letters l.initial.set l.set l.byte-index

@@ -10,9 +10,6 @@ use Rattle.table_prune.proofs.PruneAll.{from-was, pruned-tells, Pruning-kept, Pr
 use Rattle.table_prune.proofs.prune.Goals as goal
 use Rattle.table_prune.proofs.prune.Goals.{After-ahead-met}
 
-pub overflow_mul-count : goal.overflow_mul-count
-overflow_mul-count c = omega (arith, c.requires.1.1.few)
-
 -- all stay
 pub returns-then-plain-count : goal.returns-then-plain-count
 returns-then-plain-count c = record { kept = but_same _ _ _ _ _; same = (refl, refl, omega arith); told = λ letters arcs few t. t }
@@ -27,9 +24,6 @@ ahead-met-requires c = (omega (arith, c.loop-c-test.true, c.requires.1.1.few), (
 long : (c : goal.After-ahead-met) → block_end c.args.block.base ≤ length c.ahead-met.new.w
 long c = omega (arith, c.requires.1.0, c.loop-c.invariant.frame.long, c.ahead-met.ensures.kept.long)
 
-pub first_arc-from-requires : goal.first_arc-from-requires
-first_arc-from-requires c = omega (arith, long (goal.at.first_arc-from-requires c).After-ahead-met, c.loop-c-test.true, c.requires.1.1.few)
-
 pub end_of-to-requires : goal.end_of-to-requires
 end_of-to-requires c = (c.loop-c-test.true, (c.requires.1.1.few, long (goal.at.end_of-to-requires c).After-ahead-met))
 
@@ -42,18 +36,9 @@ prune_one-end-requires c = let v = Pruning-kept c.requires.0 c.requires.1.1 c.ah
 pub start_arcs-requires : goal.start_arcs-requires
 start_arcs-requires c = (omega (arith, c.requires.1.1.few, c.loop-c-test.true), omega (arith, c.loop-c.invariant.below, c.requires.1.1.less), omega (arith, long (goal.at.start_arcs-requires c).After-ahead-met, c.prune_one-end.ensures.kept.long))
 
-pub overflow_add-c : goal.overflow_add-c
-overflow_add-c c = omega (arith, c.loop-c-test.true, c.requires.1.1.few)
-
-pub loop-c-smaller : goal.loop-c-smaller
-loop-c-smaller c = omega (arith, c.loop-c-test.true)
-
 pub loop-c-preserved : goal.loop-c-preserved
 loop-c-preserved c = Pruning-more c.requires.0 c.requires.1.1 c.loop-c-test.true (Pruning-kept c.requires.0 c.requires.1.1 c.ahead-met.ensures.kept c.loop-c.invariant) c.first_arc-from.ensures c.end_of-to.ensures c.prune_one-end.ensures.kept c.prune_one-end.ensures.place.0 c.prune_one-end.ensures.place.1 c.prune_one-end.ensures.rest c.prune_one-end.ensures.sound
     (λ x j m t. ⊎_elim (λ s. inl (c.ahead-met.ensures.covered x j m s)) (λ b. inr b) (c.prune_one-end.ensures.full x j m t)) c.start_arcs.ensures.kept c.start_arcs.ensures.starts
-
-pub shape_of-w : goal.shape_of-w
-shape_of-w c = c.loop-c.invariant.frame.long
 
 pub returns : goal.returns
 returns c = record { kept = c.loop-c.invariant.frame; same = (refl, refl, omega (arith, c.loop-c.invariant.below)); told = pruned-tells c.requires.0 c.requires.1.1 c.loop-c-test.false c.loop-c.invariant }

@@ -11,12 +11,6 @@ listed_arc-arc-requires c = (omega (arith, c.loop-k-test.true, c.requires.1), om
 pub list_arc-requires : goal.list_arc-requires
 list_arc-requires c = (omega (arith, c.loop-k-test.true, c.requires.1), c.new_letter-letter.ensures.1 c.listed_arc-arc.ensures.letter.1, c.listed_arc-arc.ensures.target.1, omega (arith, c.requires.2, c.loop-k.invariant.kept.long))
 
-pub overflow_add-k : goal.overflow_add-k
-overflow_add-k c = omega (arith, c.loop-k-test.true, c.requires.1)
-
-pub loop-k-smaller : goal.loop-k-smaller
-loop-k-smaller c = omega (arith, c.loop-k-test.true)
-
 pub loop-k-preserved : goal.loop-k-preserved
 loop-k-preserved c = Relisting-more c.loop-k.invariant (omega (arith, c.loop-k-test.true, c.requires.1)) (rw (← c.listed_arc-arc.ensures.letter.0) c.new_letter-letter.ensures.0) c.listed_arc-arc.ensures.target.0 c.list_arc.ensures.kept c.list_arc.ensures.listed
 

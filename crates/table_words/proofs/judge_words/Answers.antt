@@ -5,6 +5,7 @@ use native.Mathlib.Omega.{arith}
 use lib.ListN.{drop, length, length-drop, take}
 use Rattle.automata.specs.Unfolding.{configurations}
 use Rattle.format.specs.Decoding.{automaton_of}
+use Rattle.std.specs.Prelude.{Ok}
 use Rattle.table.specs.declared.Membership.{Membership}
 use Rattle.table_words.specs.Words.{before, packed}
 use Rattle.table_words.proofs.FewLive.{packed-fits}
@@ -43,7 +44,7 @@ pub pack-requires : goal.pack-requires
 pack-requires c =
     let b = c.loop-n.invariant.ready.built in
     let few : length (configurations (automaton_of c.args.file.now) 256) ≤ 256 = omega (arith, b.many, b.ended) in
-    subst (λ (r : Membership). packed r < 2 ^ 64) (sym c.judge.ensures.answer) (packed-fits (automaton_of c.args.file.now) few (take (c.word_end-end.result - c.loop-n.from) (drop c.loop-n.from c.args.bytes.now)))
+    subst (λ (r : Membership). packed (Ok r) < 2 ^ 64) (sym c.judge.ensures.answer) (packed-fits (automaton_of c.args.file.now) few (take (c.word_end-end.result - c.loop-n.from) (drop c.loop-n.from c.args.bytes.now)))
 
 pub overflow_add-from : goal.overflow_add-from
 overflow_add-from c =
@@ -60,7 +61,7 @@ loop-n-preserved c =
       ready = c.judge.ensures.ready;
       long = c.judge.ensures.kept.long ∙ c.loop-n.invariant.long;
       so_far = so_far_more (automaton_of a.file.now) a.bytes.now a.separator a.answers.now h c.word_end-end.result c.pack.result
-          (omega (arith, h.long, c.loop-n-test.true)) c.word_end-end.ensures (omega (arith, i.1, c.if-end-bytes.false)) (c.pack.ensures ∙ ap packed c.judge.ensures.answer);
+          (omega (arith, h.long, c.loop-n-test.true)) c.word_end-end.ensures (omega (arith, i.1, c.if-end-bytes.false)) (c.pack.ensures ∙ ap (λ (r : Membership). packed (Ok r)) c.judge.ensures.answer);
     }
 
 -- there is no room for another answer
@@ -69,4 +70,5 @@ returns c =
     let a = c.args in
     let h = c.loop-n.invariant.so_far in
     let none = words-full a.separator (length a.answers.now) c.loop-n.n (drop c.loop-n.from a.bytes.now) (omega (arith, h.long, c.loop-n-test.false)) in
-    record { same = c.loop-n.invariant.long; answer = so_far-all (automaton_of a.file.now) a.bytes.now a.separator a.answers.now h none; answers = so_far-answered (automaton_of a.file.now) a.bytes.now a.separator a.answers.now h none }
+    let all : c.loop-n.n ≡ length c.loop-n.answers = omega arith in
+    rw (← all) (record { same = c.loop-n.invariant.long; answer = so_far-all (automaton_of a.file.now) a.bytes.now a.separator a.answers.now h none; answers = so_far-answered (automaton_of a.file.now) a.bytes.now a.separator a.answers.now h none })

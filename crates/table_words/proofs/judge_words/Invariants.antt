@@ -1,7 +1,6 @@
 -- `table_words::judge_words` meets its contract: before each word the automaton is ready, and what all words give is what stands in the answers,
 -- followed by what the rest gives (SoFar).
 use mathlib.Core.Path.{◌≡◌}
-use Prim.Native.Nat.{◌-◌}
 use lib.ListN.{length}
 use Rattle.format.specs.Decoding.{automaton_of}
 use Rattle.table.specs.Judging.{Judging}
@@ -14,6 +13,3 @@ invariant-loop-n l = record {
   long : length l.w ≡ length l.initial.w;
   so_far : SoFar (automaton_of l.file) l.bytes l.separator l.initial.answers l.n l.from l.answers;
 }
-
-abbrev pub decreases-loop-n : goal.decreases-loop-n
-decreases-loop-n l = length l.answers - l.n

@@ -2,13 +2,14 @@
 use mathlib.Core.Path.{◌≡◌, subst}
 use Prim.Native.Nat.{◌^◌, ◌<◌}
 use native.Mathlib.Omega.{arith}
+use Rattle.std.specs.Prelude.{Ok}
 use Rattle.table.specs.declared.Membership.{Membership}
 use Rattle.table_words.specs.Words.{packed}
 use Rattle.table_words.proofs.pack.Goals as goal
 
 -- the word is accepted, or rejected
-fits : {a r : Membership} → a ≡ r → packed a < 2 ^ 64 → packed r < 2 ^ 64
-fits e h = subst (λ (r : Membership). packed r < 2 ^ 64) e h
+fits : {a r : Membership} → a ≡ r → packed (Ok a) < 2 ^ 64 → packed (Ok r) < 2 ^ 64
+fits e h = subst (λ (r : Membership). packed (Ok r) < 2 ^ 64) e h
 
 pub overflow_mul-result : goal.overflow_mul-result
 overflow_mul-result c = let h = fits c.in-Accepted.is c.requires in record { fits = omega (arith, h) }
@@ -24,6 +25,3 @@ returns-in-Accepted c = rw c.in-Accepted.is
 
 pub returns-in-Rejected : goal.returns-in-Rejected
 returns-in-Rejected c = rw c.in-Rejected.is
-
-pub returns-in-Refused : goal.returns-in-Refused
-returns-in-Refused c = rw c.in-Refused.is

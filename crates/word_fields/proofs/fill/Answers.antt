@@ -1,19 +1,15 @@
+-- `word_fields::fill` meets its contract: a field of a word of ones alone is 65535.
+use Rattle.std.proofs.Common.{rules, ◌≡◌, ℕ, ◌+◌, ◌-◌, ◌/◌, ◌<◌, get_or, List}
+use Rattle.std.proofs.lemmas.List.{places, get_or-replicate}
+use mathlib.Core.Path.{◌∙◌, ap}
 use native.Mathlib.Omega.{arith}
-use Prim.Native.Nat.{◌-◌}
-use Rattle.word_fields.proofs.FieldLaws.{Filled, Filled-start, filled_more, Filled-end}
+use borrow.Rule.Slice.PartMut.{put_mid}
+use Rattle.word_fields.proofs.FieldLaws.{all_ones, field-ones}
 use Rattle.word_fields.proofs.fill.Goals as goal
 
-pub loop-i-init : goal.loop-i-init
-loop-i-init c = Filled-start _ _ _
-
-pub offset_bounds-w-base : goal.offset_bounds-w-base
-offset_bounds-w-base c = omega (arith, c.well_formed.0.1)
-
-pub loop-i-preserved : goal.loop-i-preserved
-loop-i-preserved c = filled_more (omega arith) (omega arith) c.loop-i.invariant
-
-pub shape_of-w : goal.shape_of-w
-shape_of-w c = c.loop-i.invariant.kept.long
-
-pub returns : goal.returns
-returns c = record { kept = c.loop-i.invariant.kept; set = Filled-end (omega arith) c.loop-i.invariant }
+pub returns-clause-set : goal.returns-clause-set
+returns-clause-set c k h =
+    let a : k / 4 < c.args.n = omega arith in
+    let e : get_or (put_mid c.args.base (c.args.base + c.args.n - c.args.base) c.args.w.now c.fill.new.self) (c.args.base + k / 4) 0 ≡ get_or c.fill.new.self (k / 4) 0 = search (rules, places) in
+    let f : get_or c.fill.new.self (k / 4) 0 ≡ all_ones = ap (λ (xs : List ℕ). get_or xs (k / 4) 0) (c.fill.ensures.after (λ y e. e)) ∙ get_or-replicate _ (k / 4) all_ones 0 (omega arith) in
+    field-ones _ c.args.base k (e ∙ f)

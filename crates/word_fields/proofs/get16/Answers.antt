@@ -1,5 +1,4 @@
 -- `word_fields::get16` meets its contract, by the definition of a field.
-use borrow.Author.Rules.{rules}
 use native.Mathlib.Omega.{arith}
 use mathlib.Core.Path.{refl}
 use Rattle.word_fields.specs.Fields.{field}

@@ -1,5 +1,4 @@
 -- `word_fields::put16` meets its contract: the digit to the base 2 ^ 16 is cleared, and v is written to it.
-use borrow.Author.Rules.{rules}
 use native.Mathlib.Omega.{arith}
 use Prim.Native.Nat.{◌+◌, ◌/◌}
 use Rattle.word_fields.proofs.FrameLaws.{kept_set}

@@ -1,5 +1,4 @@
 -- `word_sets::common` meets its contract: word by word, the digits of both.
-use borrow.Author.Rules.{rules}
 use Rattle.word_sets.proofs.SetLaws.{four, common_set}
 use Rattle.word_sets.proofs.common.Goals as goal
 

@@ -1,6 +1,4 @@
 -- `word_sets::has` meets its contract: one digit of one word tells.
-use borrow.Author.Rules.{rules}
-use native.Mathlib.Omega.{arith}
 use Rattle.word_sets.proofs.SetLaws.{has-set}
 use Rattle.word_sets.proofs.has.Goals as goal
 

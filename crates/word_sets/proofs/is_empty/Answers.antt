@@ -1,5 +1,4 @@
 -- `word_sets::is_empty` meets its contract: no word has a digit 1.
-use borrow.Author.Rules.{rules}
 use Rattle.word_sets.proofs.SetLaws.{four, none-set}
 use Rattle.word_sets.proofs.is_empty.Goals as goal
 

@@ -1,5 +1,4 @@
 -- `word_sets::meets` meets its contract: a digit of a word of both sets is a member of both.
-use borrow.Author.Rules.{rules}
 use Rattle.word_sets.proofs.SetLaws.{four, meets-set}
 use Rattle.word_sets.proofs.meets.Goals as goal
 

@@ -1,8 +1,7 @@
 use native.Mathlib.Omega.{arith}
-use Prim.Native.Nat.{◌-◌, ◌*◌, ◌≤◌}
 use lib.Count.{trailing_le}
 use Rattle.word_sets.proofs.SetLaws.{four}
-use Rattle.word_sets.proofs.NextLive.{Scanned, rest_of, Scanned-start, Scanned-skip, Scanned-hit, Scanned-end}
+use Rattle.word_sets.proofs.NextLive.{rest_of, Scanned-start, Scanned-skip, Scanned-hit, Scanned-end}
 use Rattle.word_sets.proofs.next_live.Goals as goal
 use Rattle.word_sets.proofs.next_live.Goals.{then-at-q+else-x-ne0, else-at-q}
 

@@ -1,5 +1,4 @@
 -- `word_sets::size` meets its contract: each word has at most 64 digits 1, so the sum fits.
-use borrow.Author.Rules.{rules}
 use native.Mathlib.Omega.{arith}
 use Prim.Native.Nat.{ℕ, ◌≤◌}
 use lib.ListN.{get_or}

@@ -1,5 +1,4 @@
 -- `word_sets::union` meets its contract: word by word, the digits of either.
-use borrow.Author.Rules.{rules}
 use Rattle.word_sets.proofs.SetLaws.{four, union-set}
 use Rattle.word_sets.proofs.union.Goals as goal
 

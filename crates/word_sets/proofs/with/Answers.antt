@@ -1,5 +1,4 @@
 -- `word_sets::with` meets its contract: one digit of one word is set.
-use borrow.Author.Rules.{rules}
 use native.Mathlib.Omega.{arith}
 use Rattle.word_sets.proofs.SetLaws.{four, with_set}
 use Rattle.word_sets.proofs.with.Goals as goal

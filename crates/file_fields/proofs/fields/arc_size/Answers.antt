@@ -1,7 +1,6 @@
 -- How many bytes an arc takes: its number of operations is the fourth byte from its place on.
 use native.Mathlib.Omega.{arith}
 use lib.Seq.{get_or-drop}
-use borrow.Author.Rules.{rules}
 use Rattle.file_fields.proofs.fields.arc_size.Goals as goal
 
 pub returns : goal.returns

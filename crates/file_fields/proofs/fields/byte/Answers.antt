@@ -1,7 +1,6 @@
 -- The byte at a place: it fits a `usize`, since it is below 256.
 use mathlib.Core.Path.{refl}
 use native.Mathlib.Omega.{arith}
-use borrow.Author.Rules.{rules}
 use Rattle.file_fields.proofs.fields.byte.Goals as goal
 
 pub overflow_cast-result : goal.overflow_cast-result

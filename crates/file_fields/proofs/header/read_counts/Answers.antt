@@ -1,5 +1,4 @@
 -- The counts, each the number at its place.
-use borrow.Author.Rules.{rules}
 use Rattle.file_fields.proofs.header.read_counts.Goals as goal
 
 pub returns : goal.returns

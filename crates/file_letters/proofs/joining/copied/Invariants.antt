@@ -5,7 +5,4 @@ use lib.ListN.{length, take}
 use Rattle.file_letters.proofs.joining.copied.Given as goal
 
 abbrev pub invariant-loop-i : goal.invariant-loop-i
-invariant-loop-i l = (l.i ≤ length l.list) × (length l.copy ≡ 64) × (take l.i l.copy ≡ take l.i l.list)
-
-abbrev pub decreases-loop-i : goal.decreases-loop-i
-decreases-loop-i l = length l.list - l.i
+invariant-loop-i l = (length l.copy ≡ 64) × (take l.i l.copy ≡ take l.i l.list)

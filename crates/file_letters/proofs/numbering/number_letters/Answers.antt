@@ -1,28 +1,14 @@
-use mathlib.Core.Path.{◌∙◌, ◌≡◌, ap, refl, sym}
-use Prim.Native.Nat.{ℕ}
+use mathlib.Core.Path.{◌∙◌, ◌≡◌, ap}
 use native.Mathlib.Omega.{arith}
-use lib.ListN.{length, length-set, take}
-use lib.Seq.{take_all}
-use Rattle.automata.specs.Words.{place, places}
+use lib.ListN.{get_or, length, length-set}
+use Rattle.std.specs.Option.{unwrap_or}
+use Rattle.automata.specs.Words.{place}
 use Rattle.file_letters.proofs.FillLaws.{filled_more}
+use Rattle.file_letters.proofs.PlaceLaws.{place_found}
 use Rattle.file_letters.proofs.numbering.number_letters.Goals as goal
 
-pub loop-i-init : goal.loop-i-init
-loop-i-init c = (omega arith, refl, refl)
-
-pub overflow_cast-new : goal.overflow_cast-new
-overflow_cast-new c = omega (arith, c.place_of.ensures.1, c.requires.1)
-
-pub bounds-new-i : goal.bounds-new-i
-bounds-new-i c = omega (arith, c.loop-i.invariant.1, c.requires.0)
-
 pub loop-i-preserved : goal.loop-i-preserved
-loop-i-preserved c = (
-  omega arith,
-  length-set c.loop-i.new c.loop-i.i c.place_of.result ∙ c.loop-i.invariant.1,
-  rw c.place_of.ensures.0 (filled_more (place c.args.all.now) c.args.own.now c.loop-i.new c.loop-i.i (omega arith) (omega (arith, c.loop-i.invariant.1, c.requires.0)) c.loop-i.invariant.2),
+loop-i-preserved c = let e : c.unwrap_or.result ≡ place c.args.all.now (get_or c.args.own.now c.loop-i.i 0) = c.unwrap_or.ensures ∙ ap (λ o. unwrap_or o (length c.args.all.now)) c.place_of.ensures ∙ place_found c.args.all.now (get_or c.args.own.now c.loop-i.i 0) in (
+  length-set c.loop-i.new c.loop-i.i c.unwrap_or.result ∙ c.loop-i.invariant.0,
+  rw e (filled_more (place c.args.all.now) c.args.own.now c.loop-i.new c.loop-i.i (omega arith) (omega (arith, c.loop-i.invariant.0, c.requires.0)) c.loop-i.invariant.1),
 )
-
-pub returns : goal.returns
-returns c = let e : c.loop-i.i ≡ length c.args.own.now = omega (arith, c.loop-i.invariant.0) in
-    ap (λ (n : ℕ). take n c.loop-i.new) (sym e) ∙ c.loop-i.invariant.2 ∙ ap (places c.args.all.now) (take_all c.loop-i.i c.args.own.now (omega arith))

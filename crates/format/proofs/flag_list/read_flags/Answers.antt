@@ -6,7 +6,8 @@ use native.Mathlib.Omega.{arith}
 use borrow.Author.Tests.{le-leb, lt-leb}
 use lib.Dec.{leb}
 use lib.ListN.{length, take, drop}
-use Rattle.file_fields.specs.declared.Reading.TheVariants.{Refused}
+use Rattle.std.specs.Prelude.{Err}
+use Rattle.file_fields.specs.declared.Reason.TheVariants.{EndsInsideAField, FinalFlag}
 use Rattle.file_fields.specs.Parts.{flag_bytes, first_arc, flags, flags_front, first_fault}
 use Rattle.file_fields.proofs.Laws.{flags-all, flags-length}
 use Rattle.format.proofs.flag_list.read_flags.Goals as goal
@@ -25,15 +26,12 @@ there c = le-leb (first_arc c.args.c) (length c.args.file.now) (omega (arith, c.
 
 pub returns-then-file-arcs : goal.returns-then-file-arcs
 unfolding first_fault
-returns-then-file-arcs c = rw (lt-leb (first_arc c.args.c) (length c.args.file.now) (omega (arith, c.first_arc-arcs.ensures))) (ap (λ (n : ℕ). Refused 1 n) c.flags_at-flags.ensures)
+returns-then-file-arcs c = rw (lt-leb (first_arc c.args.c) (length c.args.file.now) (omega (arith, c.first_arc-arcs.ensures)), c.at.ensures) (ap (λ (n : ℕ). Err (record { reason = EndsInsideAField; place = n })) c.flags_at-flags.ensures)
 
 pub returns-then-known-c : goal.returns-then-known-c
 unfolding first_fault
-returns-then-known-c c = rw (there (goal.at.returns-then-known-c c).Else-file-arcs, all-flags (goal.at.returns-then-known-c c).After-flags_front-known ∙ lt-leb _ _ c.if-known-c.true) (ap₂ (λ (m n : ℕ). Refused 6 (m + n)) c.flags_at-flags.ensures (flagged (goal.at.returns-then-known-c c).After-flags_front-known))
+returns-then-known-c c = rw (there (goal.at.returns-then-known-c c).Else-file-arcs, all-flags (goal.at.returns-then-known-c c).After-flags_front-known ∙ lt-leb _ _ c.if-known-c.true, c.at-then-known-c.ensures) (ap₂ (λ (m n : ℕ). Err (record { reason = FinalFlag; place = (m + n) })) c.flags_at-flags.ensures (flagged (goal.at.returns-then-known-c c).After-flags_front-known))
 
 pub returns : goal.returns
 unfolding first_fault
 returns c = rw (there (goal.at.returns c).Else-file-arcs, all-flags (goal.at.returns c).After-flags_front-known ∙ le-leb _ _ c.if-known-c.false)
-
-pub overflow_add-result : goal.overflow_add-result
-overflow_add-result c = omega (arith, c.flags_at-flags.ensures)

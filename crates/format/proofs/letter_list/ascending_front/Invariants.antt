@@ -6,7 +6,4 @@ use Rattle.file_fields.specs.Parts.{ascending_front}
 use Rattle.format.proofs.letter_list.ascending_front.Given as goal
 
 abbrev pub invariant-loop-i : goal.invariant-loop-i
-invariant-loop-i l = (1 ≤ l.i) × (l.i - 1 ≤ length l.s) × (ascending_front l.s ≡ l.i - 1 + ascending_front (drop (l.i - 1) l.s))
-
-abbrev pub decreases-loop-i : goal.decreases-loop-i
-decreases-loop-i l = length l.s - l.i
+invariant-loop-i l = (l.i - 1 ≤ length l.s) × (ascending_front l.s ≡ l.i - 1 + ascending_front (drop (l.i - 1) l.s))

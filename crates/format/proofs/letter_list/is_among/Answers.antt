@@ -1,28 +1,26 @@
-use mathlib.Core.Path.{◌≡◌, refl, sym, ◌∙◌}
+-- `is_among` meets its contract: a byte is looked for as `contains` does.
+use mathlib.Core.Path.{◌∙◌, ◌≡◌, ap₂, refl, sym}
 use mathlib.Core.Bool.{◌||◌}
-use Prim.Native.Nat.{suc}
-use native.Mathlib.Numerals.{add-one}
-use native.Mathlib.Omega.{arith}
+use mathlib.Core.List.{List, [], ◌∷◌}
+use Prim.Native.Nat.{ℕ}
+use native.Mathlib.Decide.{ℕ_discrete}
 use borrow.Author.Tests.{eq-eqb, ne_eqb}
 use lib.Dec.{eqb}
-use lib.ListN.{get_or, drop}
+use Rattle.std.specs.List.{list_any}
 use Rattle.automata.specs.Lists.{any}
-use Rattle.file_fields.proofs.Laws.{among-at, among-end}
 use Rattle.format.proofs.letter_list.is_among.Goals as goal
-use Rattle.format.proofs.letter_list.is_among.Goals.{In-loop-i}
 
--- what this turn decides
-turn : (c : goal.In-loop-i) → any (eqb c.args.byte) c.args.s.now ≡ (eqb c.args.byte (get_or c.args.s.now c.loop-i.i 0) || any (eqb c.args.byte) (drop (suc c.loop-i.i) c.args.s.now))
-turn c = c.loop-i.invariant.1 ∙ among-at c.args.s.now c.loop-i.i (eqb c.args.byte) (omega arith)
+other_way : (m n : ℕ) → eqb m n ≡ eqb n m
+other_way m n = go (ℕ_discrete m n)
+  where
+    go : Dec (m ≡ n) → eqb m n ≡ eqb n m
+    go (yes e) = eq-eqb m n e ∙ sym (eq-eqb n m (sym e))
+    go (no f) = ne_eqb m n f ∙ sym (ne_eqb n m (λ e. f (sym e)))
 
-pub loop-i-init : goal.loop-i-init
-loop-i-init c = (omega arith, refl)
-
-pub returns-then-byte-s : goal.returns-then-byte-s
-returns-then-byte-s c = sym (turn (goal.at.returns-then-byte-s c).In-loop-i ∙ rw (eq-eqb _ _ c.if-byte-s.true))
-
-pub loop-i-preserved : goal.loop-i-preserved
-loop-i-preserved c = (omega arith, turn (goal.at.loop-i-preserved c).In-loop-i ∙ rw (ne_eqb _ _ c.if-byte-s.false, add-one))
+among : (byte : ℕ) (l : List ℕ) → list_any (λ y. eqb y byte) l ≡ any (eqb byte) l
+unfolding any
+among byte [] = refl
+among byte (x ∷ l) = ap₂ ◌||◌ (other_way x byte) (among byte l)
 
 pub returns : goal.returns
-returns c = sym (c.loop-i.invariant.1 ∙ among-end c.args.s.now c.loop-i.i (eqb c.args.byte) (omega arith))
+returns c = c.contains.ensures.value ∙ among c.args.byte c.args.s.now

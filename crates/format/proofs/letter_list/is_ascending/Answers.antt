@@ -14,10 +14,10 @@ use Rattle.format.proofs.letter_list.is_ascending.Goals.{In-loop-i}
 -- what this turn decides
 turn : (c : goal.In-loop-i) → ascending_front c.args.s.now ≡ c.loop-i.i - 1 + suc (cond (ltb (get_or c.args.s.now (c.loop-i.i - 1) 0) (get_or c.args.s.now c.loop-i.i 0)) (ascending_front (drop c.loop-i.i c.args.s.now)) 0)
 turn c = let e : suc (c.loop-i.i - 1) ≡ c.loop-i.i = omega arith in
-    c.loop-i.invariant.2 ∙ ap (λ n. c.loop-i.i - 1 + n) (ascending-at c.args.s.now (c.loop-i.i - 1) (omega arith) ∙ rw e)
+    c.loop-i.invariant.1 ∙ ap (λ n. c.loop-i.i - 1 + n) (ascending-at c.args.s.now (c.loop-i.i - 1) (omega arith) ∙ rw e)
 
 pub loop-i-init : goal.loop-i-init
-loop-i-init c = (omega arith, omega arith, rw zero-add)
+loop-i-init c = (omega arith, rw zero-add)
 
 pub returns-then-s-i : goal.returns-then-s-i
 returns-then-s-i c = let e : ascending_front c.args.s.now ≡ c.loop-i.i - 1 + suc 0 = turn (goal.at.returns-then-s-i c).In-loop-i ∙ rw (le-ltb (get_or c.args.s.now (c.loop-i.i - 1) 0) (get_or c.args.s.now c.loop-i.i 0) (omega arith)) in
@@ -25,8 +25,8 @@ returns-then-s-i c = let e : ascending_front c.args.s.now ≡ c.loop-i.i - 1 + s
 
 pub loop-i-preserved : goal.loop-i-preserved
 loop-i-preserved c = let e : c.loop-i.i + 1 - 1 ≡ c.loop-i.i = omega arith in
-    (omega arith, omega arith, turn (goal.at.loop-i-preserved c).In-loop-i ∙ rw (lt-ltb (get_or c.args.s.now (c.loop-i.i - 1) 0) (get_or c.args.s.now c.loop-i.i 0) (omega arith), e) (omega arith))
+    (omega arith, turn (goal.at.loop-i-preserved c).In-loop-i ∙ rw (lt-ltb (get_or c.args.s.now (c.loop-i.i - 1) 0) (get_or c.args.s.now c.loop-i.i 0) (omega arith), e) (omega arith))
 
 pub returns : goal.returns
 returns c = let e = ascending-end c.args.s.now (c.loop-i.i - 1) (omega arith) in
-    sym (ascending-all c.args.s.now ∙ le-leb (length c.args.s.now) (ascending_front c.args.s.now) (omega (arith, c.loop-i.invariant.2)))
+    sym (ascending-all c.args.s.now ∙ le-leb (length c.args.s.now) (ascending_front c.args.s.now) (omega (arith, c.loop-i.invariant.1)))

@@ -7,7 +7,8 @@ use borrow.Author.Tests.{le-leb, lt-leb}
 use lib.Dec.{leb}
 use lib.ListN.{length, take, drop}
 use Rattle.automata.specs.Letters.{unlike}
-use Rattle.file_fields.specs.declared.Reading.TheVariants.{Refused}
+use Rattle.std.specs.Prelude.{Err}
+use Rattle.file_fields.specs.declared.Reason.TheVariants.{LettersNotAscending}
 use Rattle.file_fields.specs.Parts.{letter_bytes, ascending, ascending_front, unlike_front, first_fault}
 use Rattle.file_fields.proofs.Laws.{failed, letters-length, passed, unlike-all}
 use Rattle.format.proofs.letter_list.read_letters.Goals as goal
@@ -53,11 +54,11 @@ risen c = let lent' : c.flags_at-flags.result - 12 ≡ c.args.c.letters = omega 
 -- ---- the returns
 pub returns-then-file-flags : goal.returns-then-file-flags
 unfolding first_fault
-returns-then-file-flags c = rw (lt-leb (12 + c.args.c.letters) (length c.args.file.now) (omega (arith, c.flags_at-flags.ensures)))
+returns-then-file-flags c = rw (lt-leb (12 + c.args.c.letters) (length c.args.file.now) (omega (arith, c.flags_at-flags.ensures)), c.at.ensures)
 
 pub returns-then-not-is_ascending : goal.returns-then-not-is_ascending
 unfolding first_fault
-returns-then-not-is_ascending c = rw (there (goal.at.returns-then-not-is_ascending c).Else-file-flags, failed (ascends (goal.at.returns-then-not-is_ascending c).After-is_ascending) c.if-not-is_ascending.true-raw) (ap (λ (n : ℕ). Refused 5 (12 + n)) (rise c).0)
+returns-then-not-is_ascending c = rw (there (goal.at.returns-then-not-is_ascending c).Else-file-flags, failed (ascends (goal.at.returns-then-not-is_ascending c).After-is_ascending) c.if-not-is_ascending.true-raw, c.at-then-not-is_ascending.ensures) (ap (λ (n : ℕ). Err (record { reason = LettersNotAscending; place = (12 + n) })) (rise (goal.at.returns-then-not-is_ascending c).After-ascending_front).0)
 
 pub unlike_front-unlike-requires : goal.unlike_front-unlike-requires
 unlike_front-unlike-requires c = passed c.is_ascending.ensures c.if-not-is_ascending.false-raw
@@ -65,11 +66,8 @@ unlike_front-unlike-requires c = passed c.is_ascending.ensures c.if-not-is_ascen
 pub returns-then-unlike-c : goal.returns-then-unlike-c
 unfolding first_fault
 returns-then-unlike-c c = let fewer = lt-leb c.args.c.letters c.unlike_front-unlike.result (omega arith) in
-    rw (there (goal.at.returns-then-unlike-c c).Else-file-flags, risen (goal.at.returns-then-unlike-c c).Else-not-is_ascending, all_once (goal.at.returns-then-unlike-c c).After-unlike_front-unlike ∙ fewer) (ap (λ (n : ℕ). Refused 5 (12 + n)) (once (goal.at.returns-then-unlike-c c).After-unlike_front-unlike))
+    rw (there (goal.at.returns-then-unlike-c c).Else-file-flags, risen (goal.at.returns-then-unlike-c c).Else-not-is_ascending, all_once (goal.at.returns-then-unlike-c c).After-unlike_front-unlike ∙ fewer, c.at-then-unlike-c.ensures) (ap (λ (n : ℕ). Err (record { reason = LettersNotAscending; place = (12 + n) })) (once (goal.at.returns-then-unlike-c c).After-unlike_front-unlike))
 
 pub returns : goal.returns
 unfolding first_fault
 returns c = rw (there (goal.at.returns c).Else-file-flags, risen (goal.at.returns c).Else-not-is_ascending, all_once (goal.at.returns c).After-unlike_front-unlike ∙ le-leb _ _ c.if-unlike-c.false)
-
-pub overflow_add-result : goal.overflow_add-result
-overflow_add-result c = omega (arith, (rise c).1)

@@ -13,10 +13,10 @@ use Rattle.format.proofs.letter_list.unlike_front.Goals.{After-is_listed_again}
 
 -- what this turn decides
 turn : (c : goal.After-is_listed_again) → unlike_front c.args.s.now ≡ c.loop-i.i + cond (not c.is_listed_again.result) (suc (unlike_front (drop (suc c.loop-i.i) c.args.s.now))) 0
-turn c = c.loop-i.invariant.1 ∙ ap (λ n. c.loop-i.i + n) (unlike-at c.args.s.now c.loop-i.i (omega arith)) ∙ rw c.is_listed_again.ensures
+turn c = c.loop-i.invariant ∙ ap (λ n. c.loop-i.i + n) (unlike-at c.args.s.now c.loop-i.i (omega arith)) ∙ rw c.is_listed_again.ensures
 
 pub loop-i-init : goal.loop-i-init
-loop-i-init c = (omega arith, rw zero-add)
+loop-i-init c = rw zero-add
 
 pub returns-then-not-may_have_both_cases : goal.returns-then-not-may_have_both_cases
 returns-then-not-may_have_both_cases c = sym (c.may_have_both_cases.ensures (not-true _ c.if-not-may_have_both_cases.true-raw))
@@ -25,8 +25,8 @@ pub returns-then-is_listed_again : goal.returns-then-is_listed_again
 returns-then-is_listed_again c = sym (turn (goal.at.returns-then-is_listed_again c).After-is_listed_again ∙ rw c.if-is_listed_again.true (omega arith))
 
 pub loop-i-preserved : goal.loop-i-preserved
-loop-i-preserved c = (omega arith, turn (goal.at.loop-i-preserved c).After-is_listed_again ∙ rw (c.if-is_listed_again.false, add-one) (omega arith))
+loop-i-preserved c = turn (goal.at.loop-i-preserved c).After-is_listed_again ∙ rw (c.if-is_listed_again.false, add-one) (omega arith)
 
 pub returns : goal.returns
 returns c = let e = unlike-end c.args.s.now c.loop-i.i (omega arith) in
-    omega (arith, c.loop-i.invariant.1)
+    omega (arith, c.loop-i.invariant)

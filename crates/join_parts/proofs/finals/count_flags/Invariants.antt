@@ -6,7 +6,4 @@ use Rattle.join_parts.proofs.FinalFlags.{final_from}
 use Rattle.join_parts.proofs.finals.count_flags.Given as goal
 
 abbrev pub invariant-loop-i : goal.invariant-loop-i
-invariant-loop-i l = (l.i ≤ length l.flags) × (l.n ≤ l.i) × (l.n + length (final_from l.flags l.i) ≡ length (final_from l.flags 0))
-
-abbrev pub decreases-loop-i : goal.decreases-loop-i
-decreases-loop-i l = length l.flags - l.i
+invariant-loop-i l = (l.n ≤ l.i) × (l.n + length (final_from l.flags l.i) ≡ length (final_from l.flags 0))

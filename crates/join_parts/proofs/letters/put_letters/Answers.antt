@@ -8,7 +8,7 @@ use lib.ListN.{length, length-take, take}
 use Rattle.automata.specs.Automaton.{Automaton}
 use Rattle.automata.specs.Words.{places}
 use Rattle.file_fields.specs.declared.Counts.{Counts}
-use Rattle.file_fields.specs.declared.Reading.TheVariants.{Valid}
+use Rattle.std.specs.Prelude.{Ok}
 use Rattle.format.specs.Reading.{reading_of}
 use Rattle.file_fields.specs.Parts.{counts_of}
 use Rattle.format.specs.Decoding.{automaton_of}
@@ -44,7 +44,7 @@ lent l =
     }
 
 -- each file has at most 64 letters, as many as the arrays have places
-few : (file : List ℕ) {c : Counts} → c ≡ counts_of file → reading_of file ≡ Valid (counts_of file) → c.letters ≤ 64
+few : (file : List ℕ) {c : Counts} → c ≡ counts_of file → reading_of file ≡ Ok (counts_of file) → c.letters ≤ 64
 few file e v = rw e (valid-letters file (counts_of file) v).0
 
 -- ---- the file that stands in the output, that of z with room for n letters
@@ -53,7 +53,7 @@ counts : (n : ℕ) (z : Automaton) (behind : List ℕ) {out : List ℕ} {c : Cou
 counts n z behind e h = e ∙ ap counts_of h ∙ counts-there (roomy n z) behind
 
 -- as many of its arcs as the second file has
-last : (of_second : Bool) (second : List ℕ) {b : Counts} {k : ℕ} → b ≡ counts_of second → reading_of second ≡ Valid (counts_of second) → k ≡ cond of_second b.arcs 0 → k ≡ last_arcs of_second second
+last : (of_second : Bool) (second : List ℕ) {b : Counts} {k : ℕ} → b ≡ counts_of second → reading_of second ≡ Ok (counts_of second) → k ≡ cond of_second b.arcs 0 → k ≡ last_arcs of_second second
 last of_second second e v f =
     f ∙ ap (λ (m : ℕ). cond of_second m 0) (ap (λ (d : Counts). d.arcs) (e ∙ sym (valid-sizes second (counts_of second) v)))
 

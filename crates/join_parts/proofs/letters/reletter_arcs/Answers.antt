@@ -10,7 +10,7 @@ use Rattle.join_parts.proofs.letters.reletter_arcs.Goals.{After-arc_size-from, A
 
 -- the arc of this turn stands there whole
 here : (c : goal.In-loop-i) → c.loop-i.from + arc_size (drop c.loop-i.from c.loop-i.out) ≤ length c.loop-i.out
-here c = arc-whole c.args.new.now c.args.at c.args.count c.args.out.now c.loop-i.from c.loop-i.i c.loop-i.out c.loop-i.invariant c.loop-i-test.true
+here c = arc-whole c.args.new.now c.args.at c.args.count c.args.out.now c.loop-i.from c.loop-i._i c.loop-i.out c.loop-i.invariant c.loop-i-test.true
 
 -- the new number of its letter
 number : (c : goal.After-new_letter-letter) → c.new_letter-letter.result ≡ letter_by c.args.new.now (get_or c.loop-i.out (c.loop-i.from + 1) 0)
@@ -34,19 +34,16 @@ arc_size-from-requires c = simp length-set (omega (arith, here (goal.at.arc_size
 -- the arc takes as many bytes as before
 size : (c : goal.After-arc_size-from) → c.arc_size-from.result ≡ arc_size (drop c.loop-i.from c.loop-i.out)
 size c = let number' : c.new_letter-letter.result ≡ letter_by c.args.new.now (get_or c.loop-i.out (c.loop-i.from + 1) 0) = rw (← c.byte.ensures.0) c.new_letter-letter.ensures.0 in
-    rw (number') at c.arc_size-from.ensures.0 ∙ arc-same c.args.new.now c.args.at c.args.count c.args.out.now c.loop-i.from c.loop-i.i c.loop-i.out c.loop-i.invariant
+    rw (number') at c.arc_size-from.ensures.0 ∙ arc-same c.args.new.now c.args.at c.args.count c.args.out.now c.loop-i.from c.loop-i._i c.loop-i.out c.loop-i.invariant
 
 pub overflow_add-from-in-loop-i : goal.overflow_add-from-in-loop-i
 overflow_add-from-in-loop-i c = omega (arith, here (goal.at.overflow_add-from-in-loop-i c).In-loop-i, size c)
 
 pub loop-i-preserved : goal.loop-i-preserved
-loop-i-preserved c = rw (size c, number (goal.at.loop-i-preserved c).After-new_letter-letter) (arcs-less c.args.new.now c.args.at c.args.count c.args.out.now c.loop-i.from c.loop-i.i c.loop-i.out c.loop-i.invariant c.loop-i-test.true)
-
-pub shape_of-out : goal.shape_of-out
-shape_of-out c = c.loop-i.invariant.size
+loop-i-preserved c = rw (size c, number (goal.at.loop-i-preserved c).After-new_letter-letter) (arcs-less c.args.new.now c.args.at c.args.count c.args.out.now c.loop-i.from c.loop-i._i c.loop-i.out c.loop-i.invariant c.loop-i-test.true)
 
 pub returns : goal.returns
-returns c = let whole = arcs-done c.args.new.now c.args.at c.args.count c.args.out.now c.loop-i.from c.loop-i.i c.loop-i.out c.loop-i.invariant c.loop-i-test.false in record { place = whole.0; output = whole.1 }
+returns c = let whole = arcs-done c.args.new.now c.args.at c.args.count c.args.out.now c.loop-i.from c.loop-i._i c.loop-i.out c.loop-i.invariant c.loop-i-test.false in record { place = whole.0; output = whole.1 }
 
 pub overflow_add-from : goal.overflow_add-from
 overflow_add-from c = omega (arith, here c)

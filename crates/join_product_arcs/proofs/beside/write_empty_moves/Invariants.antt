@@ -1,5 +1,5 @@
 -- `join_product_arcs::beside::write_empty_moves` meets its contract.
-use Prim.Native.Nat.{◌-◌, ◌≤◌}
+use Prim.Native.Nat.{◌-◌}
 use lib.ListN.{drop}
 use Rattle.file_fields.specs.Parts.{first_arc}
 use Rattle.format.specs.Decoding.{arcs_of}
@@ -11,7 +11,4 @@ use Rattle.join_product_arcs.specs.JointArcs.{beside_arc}
 use Rattle.join_product_arcs.proofs.beside.write_empty_moves.Given as goal
 
 abbrev pub invariant-loop-i : goal.invariant-loop-i
-invariant-loop-i l = (l.i ≤ l.c.arcs) × Walk l.c l.file (l.c.arcs - l.i) l.from × Left l.at (arcs_bytes (empty_with (beside_arc l.b) l.b.states (arcs_of l.c.arcs (drop (first_arc l.c) l.file)))) l.initial.out l.to (arcs_bytes (empty_with (beside_arc l.b) l.b.states (arcs_of (l.c.arcs - l.i) (drop l.from l.file)))) l.out
-
-abbrev pub decreases-loop-i : goal.decreases-loop-i
-decreases-loop-i l = l.c.arcs - l.i
+invariant-loop-i l = Walk l.fn.c l.file (l.fn.c.arcs - l._i) l.from × Left l.at (arcs_bytes (empty_with (beside_arc l.b) l.b.states (arcs_of l.fn.c.arcs (drop (first_arc l.fn.c) l.file)))) l.initial.out l.to (arcs_bytes (empty_with (beside_arc l.b) l.b.states (arcs_of (l.fn.c.arcs - l._i) (drop l.from l.file)))) l.out

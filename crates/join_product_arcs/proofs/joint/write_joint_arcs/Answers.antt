@@ -31,16 +31,16 @@ all s = joint_group (automaton_of s.args.first.now) (automaton_of s.args.second.
 
 -- the arc of this turn, and what is left to write
 here : (c : goal.In-loop-i) → ArcHere c.args.a c.args.first.now c.loop-i.from
-here c = walk_here c.args.a c.args.first.now c.args.a.arcs c.loop-i.i c.loop-i.from c.loop-i-test.true c.loop-i.invariant.1
+here c = walk_here c.args.a c.args.first.now c.args.a.arcs c.loop-i._i c.loop-i.from c.loop-i-test.true c.loop-i.invariant.0
 
 turn : (c : goal.In-loop-i) →
     let joints' : Arc → List Arc = joint_with c.args.b.states c.args.k (by_first c.args.first.now c.args.others.now c.args.second.now).arcs in let g = joints' in let arc = drop c.loop-i.from c.args.first.now in
     Left c.args.at (arcs_bytes (flat_map g (arcs_of c.args.a.arcs (drop (first_arc c.args.a) c.args.first.now)))) c.args.out.now c.loop-i.to
-    (arcs_bytes (g (arc_of arc)) ++ arcs_bytes (flat_map g (arcs_of (c.args.a.arcs - (c.loop-i.i + 1)) (drop (c.loop-i.from + arc_size arc) c.args.first.now)))) c.loop-i.out
+    (arcs_bytes (g (arc_of arc)) ++ arcs_bytes (flat_map g (arcs_of (c.args.a.arcs - (c.loop-i._i + 1)) (drop (c.loop-i.from + arc_size arc) c.args.first.now)))) c.loop-i.out
 turn c = let joints' : Arc → List Arc = joint_with c.args.b.states c.args.k (by_first c.args.first.now c.args.others.now c.args.second.now).arcs in
     let g = joints' in
     let arc = drop c.loop-i.from c.args.first.now in
-    rw (flat_next g c.args.a c.args.first.now c.args.a.arcs c.loop-i.i c.loop-i.from c.loop-i-test.true, arcs-append (g (arc_of arc)) (flat_map g (arcs_of (c.args.a.arcs - (c.loop-i.i + 1)) (drop (c.loop-i.from + arc_size arc) c.args.first.now)))) at c.loop-i.invariant.2
+    rw (flat_next g c.args.a c.args.first.now c.args.a.arcs c.loop-i._i c.loop-i.from c.loop-i-test.true, arcs-append (g (arc_of arc)) (flat_map g (arcs_of (c.args.a.arcs - (c.loop-i._i + 1)) (drop (c.loop-i.from + arc_size arc) c.args.first.now)))) at c.loop-i.invariant.1
 
 pub first_arc-from-requires : goal.first_arc-from-requires
 first_arc-from-requires c = let r = valid-ranges _ _ c.requires.0.first in
@@ -48,7 +48,7 @@ first_arc-from-requires c = let r = valid-ranges _ _ c.requires.0.first in
 
 pub loop-i-init : goal.loop-i-init
 loop-i-init c = let e : c.args.a.arcs - 0 ≡ c.args.a.arcs = omega arith in
-    (omega arith, rw (e, c.first_arc-from.ensures) (walk_start _ _ c.requires.0.first), rw (e, c.first_arc-from.ensures) (left-all (rw (all (goal.at.loop-i-init c).Start) at c.requires.3)))
+    (rw (e, c.first_arc-from.ensures) (walk_start _ _ c.requires.0.first), rw (e, c.first_arc-from.ensures) (left-all (rw (all (goal.at.loop-i-init c).Start) at c.requires.3)))
 
 pub write_joint_with-to-requires : goal.write_joint_with-to-requires
 write_joint_with-to-requires c = let h = here (goal.at.write_joint_with-to-requires c).In-loop-i in
@@ -69,14 +69,10 @@ overflow_add-from c = omega (arith, (here (goal.at.overflow_add-from c).In-loop-
 
 pub loop-i-preserved : goal.loop-i-preserved
 loop-i-preserved c = (
-  omega arith,
-  rw c.arc_size-from.ensures.0 (walk-on c.args.a c.args.first.now c.args.a.arcs c.loop-i.i c.loop-i.from c.loop-i-test.true c.loop-i.invariant.1),
+  rw c.arc_size-from.ensures.0 (walk-on c.args.a c.args.first.now c.args.a.arcs c.loop-i._i c.loop-i.from c.loop-i-test.true c.loop-i.invariant.0),
   rw c.arc_size-from.ensures.0 (left_less _ (turn (goal.at.loop-i-preserved c).In-loop-i) c.write_joint_with-to.ensures),
 )
 
-pub shape_of-out : goal.shape_of-out
-shape_of-out c = c.loop-i.invariant.2.size
-
 pub returns : goal.returns
 unfolding arcs_bytes
-returns c = rw (all (goal.at.returns c).Start) (left-none (rw (flat_none (joints (goal.at.returns c).Start) c.args.a c.args.first.now c.args.a.arcs c.loop-i.i c.loop-i.from c.loop-i-test.false) at c.loop-i.invariant.2))
+returns c = rw (all (goal.at.returns c).Start) (left-none (rw (flat_none (joints (goal.at.returns c).Start) c.args.a c.args.first.now c.args.a.arcs c.loop-i._i c.loop-i.from c.loop-i-test.false) at c.loop-i.invariant.1))

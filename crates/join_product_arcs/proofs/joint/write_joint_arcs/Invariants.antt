@@ -1,6 +1,6 @@
 -- `join_product_arcs::joint::write_joint_arcs` meets its contract.
 use mathlib.Core.List.{flat_map}
-use Prim.Native.Nat.{◌-◌, ◌≤◌}
+use Prim.Native.Nat.{◌-◌}
 use lib.ListN.{drop}
 use Rattle.file_fields.specs.Parts.{first_arc}
 use Rattle.format.specs.Decoding.{arcs_of}
@@ -12,7 +12,4 @@ use Rattle.join_product_count.specs.ProductArcs.{joint_with}
 use Rattle.join_product_arcs.proofs.joint.write_joint_arcs.Given as goal
 
 abbrev pub invariant-loop-i : goal.invariant-loop-i
-invariant-loop-i l = (l.i ≤ l.a.arcs) × Walk l.a l.first (l.a.arcs - l.i) l.from × Left l.at (arcs_bytes (flat_map (joint_with l.b.states l.k (by_first l.first l.others l.second).arcs) (arcs_of l.a.arcs (drop (first_arc l.a) l.first)))) l.initial.out l.to (arcs_bytes (flat_map (joint_with l.b.states l.k (by_first l.first l.others l.second).arcs) (arcs_of (l.a.arcs - l.i) (drop l.from l.first)))) l.out
-
-abbrev pub decreases-loop-i : goal.decreases-loop-i
-decreases-loop-i l = l.a.arcs - l.i
+invariant-loop-i l = Walk l.fn.a l.first (l.fn.a.arcs - l._i) l.from × Left l.at (arcs_bytes (flat_map (joint_with l.b.states l.k (by_first l.first l.others l.second).arcs) (arcs_of l.fn.a.arcs (drop (first_arc l.fn.a) l.first)))) l.initial.out l.to (arcs_bytes (flat_map (joint_with l.b.states l.k (by_first l.first l.others l.second).arcs) (arcs_of (l.fn.a.arcs - l._i) (drop l.from l.first)))) l.out

@@ -1,7 +1,6 @@
 use mathlib.Core.Path.{◌≡◌, ◌∙◌, sym}
 use mathlib.Core.List.{◌++◌, map}
 use Prim.Native.Nat.{◌+◌, ◌-◌}
-use native.Mathlib.Nat.{sub-zero}
 use native.Mathlib.Omega.{arith}
 use lib.ListN.{drop, get_or}
 use Rattle.automata.specs.Joins.{arc_both}
@@ -16,7 +15,7 @@ use Rattle.join_parts.proofs.Laws.{ArcHere, walk_here, walk-on, walk_start}
 use Rattle.join_product_count.specs.ProductArcs.{Matches, joint_with, numbers_by}
 use Rattle.join_product_count.proofs.Laws.{Wanted, joint_next, joint_none, joint_nothing, joint_skip, letter_at, wanted}
 use Rattle.join_product_arcs.proofs.joint.write_joint_with.Goals as goal
-use Rattle.join_product_arcs.proofs.joint.write_joint_with.Goals.{After-other_letter-own, Else-letter-eq255, In-loop-left, then-own-byte, else-own-byte}
+use Rattle.join_product_arcs.proofs.joint.write_joint_with.Goals.{After-other_letter-own, Else-letter-eq255, In-loop-i, then-own-byte, else-own-byte}
 
 sought : (c : goal.Else-letter-eq255) → Wanted c.requires.0.counts c.args.first.now c.args.others.now (arc_of (drop c.args.from c.args.first.now)) c.byte-letter.result
 sought c = wanted c.requires.0 c.byte-letter.ensures.0 c.if-letter-eq255.false
@@ -26,19 +25,19 @@ found c = let sought' : Wanted c.requires.0.counts c.args.first.now c.args.other
     c.other_letter-own.ensures c.requires.0.counts c.args.b c.args.second.now c.requires.0.files (sought').inside
 
 -- the arc of this turn
-here : (c : goal.In-loop-left) → ArcHere c.args.b c.args.second.now c.loop-left.other
-here c = walk_here c.args.b c.args.second.now c.loop-left.left 0 c.loop-left.other (omega arith) (rw (sub-zero c.loop-left.left) c.loop-left.invariant.0)
+here : (c : goal.In-loop-i) → ArcHere c.args.b c.args.second.now c.loop-i.other
+here c = walk_here c.args.b c.args.second.now c.args.b.arcs c.loop-i._i c.loop-i.other c.loop-i-test.true c.loop-i.invariant.0
 
 -- a joint arc is written in this turn
-turn : (c : goal.In-loop-left) → c.other_letter-own.result ≡ get_or c.args.second.now (c.loop-left.other + 1) 0 → let x = arc_of (drop c.args.from c.args.first.now) in let new = relettered_arc (numbers_by c.args.first.now c.args.others.now) in let arc = drop c.loop-left.other c.args.second.now in
-    Left c.args.at (arcs_bytes (joint_with c.args.b.states c.args.k (map new (arcs_of c.args.b.arcs (drop (first_arc c.args.b) c.args.second.now))) x)) c.args.out.now c.loop-left.to
-    (arc_bytes (arc_both c.args.b.states c.args.k x (arc_of arc)) ++ arcs_bytes (joint_with c.args.b.states c.args.k (map new (arcs_of (c.loop-left.left - 1) (drop (c.loop-left.other + arc_size arc) c.args.second.now))) x)) c.loop-left.out
+turn : (c : goal.In-loop-i) → c.other_letter-own.result ≡ get_or c.args.second.now (c.loop-i.other + 1) 0 → let x = arc_of (drop c.args.from c.args.first.now) in let new = relettered_arc (numbers_by c.args.first.now c.args.others.now) in let arc = drop c.loop-i.other c.args.second.now in
+    Left c.args.at (arcs_bytes (joint_with c.args.b.states c.args.k (map new (arcs_of c.args.b.arcs (drop (first_arc c.args.b) c.args.second.now))) x)) c.args.out.now c.loop-i.to
+    (arc_bytes (arc_both c.args.b.states c.args.k x (arc_of arc)) ++ arcs_bytes (joint_with c.args.b.states c.args.k (map new (arcs_of (c.args.b.arcs - (c.loop-i._i + 1)) (drop (c.loop-i.other + arc_size arc) c.args.second.now))) x)) c.loop-i.out
 unfolding arcs_bytes
 turn c e = let sought' : Wanted c.requires.0.counts c.args.first.now c.args.others.now (arc_of (drop c.args.from c.args.first.now)) c.byte-letter.result = wanted c.requires.0 c.byte-letter.ensures.0 c.if-letter-eq255.false in
     let found' : Matches c.args.b (numbers_by c.args.first.now c.args.others.now) c.byte-letter.result c.other_letter-own.result = c.other_letter-own.ensures c.requires.0.counts c.args.b c.args.second.now c.requires.0.files (sought').inside in
-    let here' : ArcHere c.args.b c.args.second.now c.loop-left.other = walk_here c.args.b c.args.second.now c.loop-left.left 0 c.loop-left.other (omega arith) (rw (sub-zero c.loop-left.left) c.loop-left.invariant.0) in
-    let next = joint_next c.args.b.states c.args.k (arc_of (drop c.args.from c.args.first.now)) (sought').letter c.args.second.now (numbers_by c.args.first.now c.args.others.now) (found') c.loop-left.left 0 c.loop-left.other (omega arith) (here') e in
-    rw (rw (sub-zero c.loop-left.left) at next) at c.loop-left.invariant.1
+    let here' : ArcHere c.args.b c.args.second.now c.loop-i.other = walk_here c.args.b c.args.second.now c.args.b.arcs c.loop-i._i c.loop-i.other c.loop-i-test.true c.loop-i.invariant.0 in
+    let next = joint_next c.args.b.states c.args.k (arc_of (drop c.args.from c.args.first.now)) (sought').letter c.args.second.now (numbers_by c.args.first.now c.args.others.now) (found') c.args.b.arcs c.loop-i._i c.loop-i.other c.loop-i-test.true (here') e in
+    rw next at c.loop-i.invariant.1
 
 pub overflow_add-from : goal.overflow_add-from
 overflow_add-from c = omega (arith, c.requires.0.whole)
@@ -58,9 +57,10 @@ pub first_arc-other-requires : goal.first_arc-other-requires
 first_arc-other-requires c = let r = valid-ranges _ _ c.requires.0.files.second in
     (r.letters, omega (arith, r.states))
 
-pub loop-left-init : goal.loop-left-init
+pub loop-i-init : goal.loop-i-init
 unfolding with_letters
-loop-left-init c = (rw c.first_arc-other.ensures (walk_start _ _ c.requires.0.files.second), rw c.first_arc-other.ensures (left-all (rw (valid-arcs _ _ c.requires.0.files.second) at c.requires.4)))
+loop-i-init c = let e : c.args.b.arcs - 0 ≡ c.args.b.arcs = omega arith in
+    (rw (e, c.first_arc-other.ensures) (walk_start _ _ c.requires.0.files.second), rw (e, c.first_arc-other.ensures) (left-all (rw (valid-arcs _ _ c.requires.0.files.second) at c.requires.4)))
 
 pub overflow_add-other : goal.overflow_add-other
 overflow_add-other c = omega (arith, (here c).whole)
@@ -69,8 +69,8 @@ pub byte-requires : goal.byte-requires
 byte-requires c = omega (arith, (here c).whole)
 
 pub write_joint-to-requires : goal.write_joint-to-requires
-write_joint-to-requires c = let h = here (goal.at.write_joint-to-requires c).In-loop-left in
-    let room = left-fits (arc_bytes (arc_both c.args.b.states c.args.k (arc_of (drop c.args.from c.args.first.now)) (arc_of (drop c.loop-left.other c.args.second.now)))) _ (turn (goal.at.write_joint-to-requires c).In-loop-left (c.if-own-byte.true ∙ c.byte.ensures.0)) in (
+write_joint-to-requires c = let h = here (goal.at.write_joint-to-requires c).In-loop-i in
+    let room = left-fits (arc_bytes (arc_both c.args.b.states c.args.k (arc_of (drop c.args.from c.args.first.now)) (arc_of (drop c.loop-i.other c.args.second.now)))) _ (turn (goal.at.write_joint-to-requires c).In-loop-i (c.if-own-byte.true ∙ c.byte.ensures.0)) in (
       record {
         first = c.requires.0.whole;
         second = h.whole;
@@ -85,29 +85,26 @@ write_joint-to-requires c = let h = here (goal.at.write_joint-to-requires c).In-
     )
 
 pub arc_size-other-requires : goal.arc_size-other-requires
-arc_size-other-requires c = omega (arith, (here (goal.at.arc_size-other-requires c).In-loop-left).whole)
+arc_size-other-requires c = omega (arith, (here (goal.at.arc_size-other-requires c).In-loop-i).whole)
 
-pub overflow_add-other-in-loop-left : goal.overflow_add-other-in-loop-left
-overflow_add-other-in-loop-left c = omega (arith, (here (goal.at.overflow_add-other-in-loop-left c).In-loop-left).whole, c.arc_size-other.ensures.0)
+pub overflow_add-other-in-loop-i : goal.overflow_add-other-in-loop-i
+overflow_add-other-in-loop-i c = omega (arith, (here (goal.at.overflow_add-other-in-loop-i c).In-loop-i).whole, c.arc_size-other.ensures.0)
 
-pub loop-left-preserved : goal.loop-left-preserved
-loop-left-preserved c = let on = walk-on c.args.b c.args.second.now c.loop-left.left 0 c.loop-left.other (omega arith) (rw (sub-zero c.loop-left.left) c.loop-left.invariant.0) in
+pub loop-i-preserved : goal.loop-i-preserved
+loop-i-preserved c = let on = walk-on c.args.b c.args.second.now c.args.b.arcs c.loop-i._i c.loop-i.other c.loop-i-test.true c.loop-i.invariant.0 in
     elim c.if-own-byte.branch [
       | then-own-byte w ↦ (
         rw c.arc_size-other.ensures.0 on,
-        rw (w.out-is, w.to-is, c.arc_size-other.ensures.0) (left_less _ (turn (goal.at.loop-left-preserved c).In-loop-left (w.if-own-byte.true ∙ c.byte.ensures.0)) w.write_joint-to.ensures),
+        rw (w.out-is, w.to-is, c.arc_size-other.ensures.0) (left_less _ (turn (goal.at.loop-i-preserved c).In-loop-i (w.if-own-byte.true ∙ c.byte.ensures.0)) w.write_joint-to.ensures),
       )
       | else-own-byte w ↦ (
         rw c.arc_size-other.ensures.0 on,
         rw (w.out-is, w.to-is, c.arc_size-other.ensures.0)
-            (rw (rw (sub-zero c.loop-left.left) at (joint_skip c.args.b.states c.args.k (arc_of (drop c.args.from c.args.first.now)) (sought (goal.at.loop-left-preserved c).Else-letter-eq255).letter c.args.second.now (numbers_by c.args.first.now c.args.others.now) (found (goal.at.loop-left-preserved c).After-other_letter-own) c.loop-left.left 0 c.loop-left.other (omega arith) (here (goal.at.loop-left-preserved c).In-loop-left) (λ d. w.if-own-byte.false (d ∙ sym c.byte.ensures.0)))) at c.loop-left.invariant.1),
+            (rw (joint_skip c.args.b.states c.args.k (arc_of (drop c.args.from c.args.first.now)) (sought (goal.at.loop-i-preserved c).Else-letter-eq255).letter c.args.second.now (numbers_by c.args.first.now c.args.others.now) (found (goal.at.loop-i-preserved c).After-other_letter-own) c.args.b.arcs c.loop-i._i c.loop-i.other c.loop-i-test.true (here (goal.at.loop-i-preserved c).In-loop-i) (λ d. w.if-own-byte.false (d ∙ sym c.byte.ensures.0))) at c.loop-i.invariant.1),
       )
     ]
-
-pub shape_of-out : goal.shape_of-out
-shape_of-out c = c.loop-left.invariant.1.size
 
 pub returns : goal.returns
 unfolding arcs_bytes with_letters
 returns c = rw (valid-arcs _ _ c.requires.0.files.second)
-    (left-none (rw (rw (sub-zero c.loop-left.left) at (joint_none c.args.b.states c.args.k (arc_of (drop c.args.from c.args.first.now)) (numbers_by c.args.first.now c.args.others.now) c.args.b c.args.second.now c.loop-left.left 0 c.loop-left.other (omega arith))) at c.loop-left.invariant.1))
+    (left-none (rw (joint_none c.args.b.states c.args.k (arc_of (drop c.args.from c.args.first.now)) (numbers_by c.args.first.now c.args.others.now) c.args.b c.args.second.now c.args.b.arcs c.loop-i._i c.loop-i.other c.loop-i-test.false) at c.loop-i.invariant.1))

@@ -9,8 +9,8 @@ use Rattle.table_operations.specs.Arcs.{Indexed, Linked}
 use Rattle.word_layout.specs.Layout.{Placed, block_end, configs, map_end, offsets}
 use Rattle.table_operations.specs.Packed.{hops_in}
 use Rattle.table_configurations.specs.Tables.{MetAll, Safe}
-use Rattle.table_configurations.specs.declared.Explored.{Explored}
-use Rattle.table_configurations.specs.declared.Explored.TheVariants.{Tables, TooMany}
+use Rattle.std.specs.Prelude.{Option, None}
+use Rattle.table_configurations.specs.declared.Sizes.{Sizes}
 use Rattle.file_fields.specs.Parts.{first_arc}
 use Rattle.table_configurations.proofs.Laws.{placed-kept}
 use Rattle.table_operations.proofs.Laws.{indexed-kept, linked-kept}
@@ -43,7 +43,7 @@ pub note_start-requires : goal.note_start-requires
 note_start-requires c = (omega (arith, c.loop-c-test.true, c.loop-c.invariant.configured.few), placed-kept c.loop-c.invariant.kept.long (place (goal.at.note_start-requires c).At-loop-c))
 
 -- ---- the start is noted
-noted : (c : goal.After-note_start) → Noted c.args.counts.arcs (drop (first_arc c.args.counts) c.args.file.now) c.prepare.new.w c.args.base c.loop-c.w c.note_start.new.w c.loop-c.count c.loop-c.plain c.loop-c.c
+noted : (c : goal.After-note_start) → Noted c.args.counts.arcs (drop (first_arc c.args.counts) c.args.file.now) c.prepare.new.w c.args.base c.loop-c.w c.note_start.new.w c.loop-c.sizes.count c.loop-c.sizes.plain c.loop-c.c
 noted c = record {
   few = c.requires.0.lies.few;
   place = placed-kept c.prepare.ensures.kept.long c.requires.1;
@@ -60,26 +60,26 @@ explore_one-requires c = let n = noted (goal.at.explore_one-requires c).After-no
 abbrev arcs : goal.At-loop-c → List ℕ
 arcs l = drop (first_arc l.args.counts) l.args.file.now
 
-told : (c : goal.After-explore_one) (x : Explored) → c.explore_one.result ≡ x → MetAll c.note_start.new.w c.explore_one.new.w c.args.base c.loop-c.count c.loop-c.plain c.loop-c.c (hops_in c.args.counts c.args.file.now (get_or c.note_start.new.w (configs + c.loop-c.c) 0)) x
-told c x e = subst (λ (x : Explored). MetAll c.note_start.new.w c.explore_one.new.w c.args.base c.loop-c.count c.loop-c.plain c.loop-c.c (hops_in c.args.counts c.args.file.now (get_or c.note_start.new.w (configs + c.loop-c.c) 0)) x) e c.explore_one.ensures.met
+told : (c : goal.After-explore_one) (x : Option Sizes) → c.explore_one.result ≡ x → MetAll c.note_start.new.w c.explore_one.new.w c.args.base c.loop-c.sizes.count c.loop-c.sizes.plain c.loop-c.c (hops_in c.args.counts c.args.file.now (get_or c.note_start.new.w (configs + c.loop-c.c) 0)) x
+told c x e = subst (λ (x : Option Sizes). MetAll c.note_start.new.w c.explore_one.new.w c.args.base c.loop-c.sizes.count c.loop-c.sizes.plain c.loop-c.c (hops_in c.args.counts c.args.file.now (get_or c.note_start.new.w (configs + c.loop-c.c) 0)) x) e c.explore_one.ensures.met
 
 -- there are too many
-pub shape_of-w-in-TooMany : goal.shape_of-w-in-TooMany
-shape_of-w-in-TooMany c = (since (goal.at.shape_of-w-in-TooMany c).At-loop-c _ (kept-walked (noted (goal.at.shape_of-w-in-TooMany c).After-note_start) c.explore_one.ensures.kept)).0.long
+pub shape_of-w-in_err-sizes : goal.shape_of-w-in_err-sizes
+shape_of-w-in_err-sizes c = (since (goal.at.shape_of-w-in_err-sizes c).At-loop-c _ (kept-walked (noted (goal.at.shape_of-w-in_err-sizes c).After-note_start) c.explore_one.ensures.kept)).0.long
 
-pub returns-in-TooMany : goal.returns-in-TooMany
-returns-in-TooMany c = let n = noted (goal.at.returns-in-TooMany c).After-note_start in
-    let q = since (goal.at.returns-in-TooMany c).At-loop-c c.explore_one.new.w (kept-walked n c.explore_one.ensures.kept) in record {
+pub returns-in_err-sizes : goal.returns-in_err-sizes
+returns-in_err-sizes c = let n = noted (goal.at.returns-in_err-sizes c).After-note_start in
+    let q = since (goal.at.returns-in_err-sizes c).At-loop-c c.explore_one.new.w (kept-walked n c.explore_one.ensures.kept) in rw c.from_residual.ensures (record {
       kept = q.0;
       arcs = q.1;
-      explores = λ x e f. Explores-many x _ c.args.counts.arcs (arcs (goal.at.returns-in-TooMany c).At-loop-c) c.requires.0.lies.registers e f c.requires.0.lies.ok 256 refl _ _
-          (walking-over n 256 (omega (arith, n.less, n.walking.configured.few)) c.explore_one.new.w (told (goal.at.returns-in-TooMany c).After-explore_one TooMany c.in-TooMany.is));
-    }
+      explores = λ x e f. Explores-many x _ c.args.counts.arcs (arcs (goal.at.returns-in_err-sizes c).At-loop-c) c.requires.0.lies.registers e f c.requires.0.lies.ok 256 refl _ _
+          (walking-over n 256 (omega (arith, n.less, n.walking.configured.few)) c.explore_one.new.w (told (goal.at.returns-in_err-sizes c).After-explore_one None c.in_err-sizes.was));
+    })
 
 pub loop-c-preserved : goal.loop-c-preserved
 loop-c-preserved c = walking-more (noted (goal.at.loop-c-preserved c).After-note_start) c.explore_one.ensures.kept
-    (subst (λ (x : Explored). Safe c.explore_one.new.w c.loop-c.count (c.loop-c.plain + c.args.counts.arcs) x) c.in-Tables.is c.explore_one.ensures.safe)
-    (told (goal.at.loop-c-preserved c).After-explore_one (Tables c.in-Tables.more c.in-Tables.listed) c.in-Tables.is)
+    (subst (λ (x : Option Sizes). Safe c.explore_one.new.w c.loop-c.sizes.count (c.loop-c.sizes.plain + c.args.counts.arcs) x) c.in_ok-sizes.was c.explore_one.ensures.safe)
+    (told (goal.at.loop-c-preserved c).After-explore_one _ c.in_ok-sizes.was)
 
 -- all have been walked
 pub shape_of-w : goal.shape_of-w

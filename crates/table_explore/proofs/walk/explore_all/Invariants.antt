@@ -6,7 +6,7 @@ use Rattle.table_explore.proofs.ExploreAll.{Walking}
 use Rattle.table_explore.proofs.walk.explore_all.Given as goal
 
 abbrev pub invariant-loop-c : goal.invariant-loop-c
-invariant-loop-c l = Walking l.counts.arcs (drop (first_arc l.counts) l.file) l.initial.w l.base l.w l.count l.plain l.c
+invariant-loop-c l = Walking l.counts.arcs (drop (first_arc l.counts) l.file) l.initial.w l.base l.w l.sizes.count l.sizes.plain l.c
 
 abbrev pub decreases-loop-c : goal.decreases-loop-c
 decreases-loop-c l = 256 - l.c

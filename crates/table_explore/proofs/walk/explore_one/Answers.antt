@@ -5,8 +5,8 @@ use lib.ListN.{get_or}
 use Rattle.word_fields.proofs.Laws.{but_then}
 use Rattle.word_layout.specs.Layout.{configs}
 use Rattle.table_configurations.specs.Tables.{Met, Safe}
-use Rattle.table_configurations.specs.declared.Explored.{Explored}
-use Rattle.table_configurations.specs.declared.Explored.TheVariants.{Tables, TooMany}
+use Rattle.std.specs.Prelude.{Option, None}
+use Rattle.table_configurations.specs.declared.Sizes.{Sizes}
 use Rattle.format.specs.Decoding.{letter_of}
 use Rattle.table_configurations.proofs.Laws.{placed-kept}
 use Rattle.table_explore.proofs.ExploreOne.{Turn, arc-here, going_end, going-failed, going_less, going-met, going-over, going_start}
@@ -28,7 +28,7 @@ pub get16-j-requires-in-arcs : goal.get16-j-requires-in-arcs
 get16-j-requires-in-arcs c = omega (arith, c.arcs.invariant.kept.long, c.arcs-test.true, c.requires.walkable.0.lies.few, c.requires.c_lt_from_count.2)
 
 -- ---- a turn at entry j
-turn : (c : goal.After-get16-j-in-arcs) → Turn c.args.file.now c.args.w.now c.args.counts c.args.base c.args.c c.args.from_count c.args.from_plain (get_or c.args.w.now (configs + c.args.c) 0) c.arcs.w c.arcs.count c.arcs.plain c.arcs.j c.get16-at.result c.get16-j-in-arcs.result
+turn : (c : goal.After-get16-j-in-arcs) → Turn c.args.file.now c.args.w.now c.args.counts c.args.base c.args.c c.args.from_count c.args.from_plain (get_or c.args.w.now (configs + c.args.c) 0) c.arcs.w c.arcs.sizes.count c.arcs.sizes.plain c.arcs.j c.get16-at.result c.get16-j-in-arcs.result
 turn c = record {
   walkable = c.requires.walkable.0;
   indexed = c.requires.walkable.1;
@@ -47,37 +47,37 @@ operate_at-requires c = let q = next-ok _ _ _ _ c.loop-k-test.true c.loop-k.inva
     (omega (arith, (arc-here (turn (goal.at.operate_at-requires c).After-get16-j-in-arcs)).fits, c.byte-p.ensures.0), omega (arith, q.0), omega (arith, q.1), c.loop-k.invariant.fits)
 
 -- the arc fails
-pub arcs-preserved-in-Failed : goal.arcs-preserved-in-Failed
-arcs-preserved-in-Failed c = going-failed (turn (goal.at.arcs-preserved-in-Failed c).After-get16-j-in-arcs) c.byte-p.ensures.0
-    (Performing-failed _ _ _ _ c.loop-k-test.true c.loop-k.invariant c.operate_at.ensures.0 c.in-Failed.is)
+pub arcs-preserved-in_default : goal.arcs-preserved-in_default
+arcs-preserved-in_default c = going-failed (turn (goal.at.arcs-preserved-in_default c).After-get16-j-in-arcs) c.byte-p.ensures.0
+    (Performing-failed _ _ _ _ c.loop-k-test.true c.loop-k.invariant c.operate_at.ensures.0 c.in_default.is)
 
 pub loop-k-preserved : goal.loop-k-preserved
-loop-k-preserved c = Performing-more _ _ _ _ c.loop-k-test.true c.loop-k.invariant c.operate_at.ensures.0 c.operate_at.ensures.1 _ c.in-Leaves.is
+loop-k-preserved c = Performing-more _ _ _ _ c.loop-k-test.true c.loop-k.invariant c.operate_at.ensures.0 c.operate_at.ensures.1 _ c.in-Some.is
 
 -- the arc passes
 pub arrive-requires : goal.arrive-requires
 arrive-requires c = let t = turn (goal.at.arrive-requires c).After-get16-j-in-arcs in
     (omega (arith, (arc-here t).fits), c.loop-k.invariant.fits, omega (arith, t.going.more, c.requires.c_lt_from_count.0), omega (arith, t.going.room, c.requires.c_lt_from_count.1, t.walkable.lies.few), placed-kept t.going.kept.long c.requires.c_lt_from_count.2, t.going.configured)
 
-told : (c : goal.After-arrive) (x : Explored) → c.arrive.result ≡ x → Met c.arcs.w c.arrive.new.w c.args.base c.arcs.count c.arcs.plain c.args.c (letter_of (get_or c.args.file.now (c.get16-at.result + 1) 0)) (c.loop-k.regs + get_or c.args.file.now (c.get16-at.result + 2) 0 * 2 ^ 32) x
-told c x e = subst (λ (x : Explored). Met c.arcs.w c.arrive.new.w c.args.base c.arcs.count c.arcs.plain c.args.c (letter_of (get_or c.args.file.now (c.get16-at.result + 1) 0)) (c.loop-k.regs + get_or c.args.file.now (c.get16-at.result + 2) 0 * 2 ^ 32) x) e c.arrive.ensures.met
+told : (c : goal.After-arrive) (x : Option Sizes) → c.arrive.result ≡ x → Met c.arcs.w c.arrive.new.w c.args.base c.arcs.sizes.count c.arcs.sizes.plain c.args.c (letter_of (get_or c.args.file.now (c.get16-at.result + 1) 0)) (c.loop-k.regs + get_or c.args.file.now (c.get16-at.result + 2) 0 * 2 ^ 32) x
+told c x e = subst (λ (x : Option Sizes). Met c.arcs.w c.arrive.new.w c.args.base c.arcs.sizes.count c.arcs.sizes.plain c.args.c (letter_of (get_or c.args.file.now (c.get16-at.result + 1) 0)) (c.loop-k.regs + get_or c.args.file.now (c.get16-at.result + 2) 0 * 2 ^ 32) x) e c.arrive.ensures.met
 
-pub shape_of-w-in-TooMany : goal.shape_of-w-in-TooMany
-shape_of-w-in-TooMany c = c.arrive.ensures.kept.long ∙ (turn (goal.at.shape_of-w-in-TooMany c).After-get16-j-in-arcs).going.kept.long
+pub shape_of-w-in_err-sizes : goal.shape_of-w-in_err-sizes
+shape_of-w-in_err-sizes c = c.arrive.ensures.kept.long ∙ (turn (goal.at.shape_of-w-in_err-sizes c).After-get16-j-in-arcs).going.kept.long
 
-pub returns-in-TooMany : goal.returns-in-TooMany
-returns-in-TooMany c = let t = turn (goal.at.returns-in-TooMany c).After-get16-j-in-arcs in record {
+pub returns-in_err-sizes : goal.returns-in_err-sizes
+returns-in_err-sizes c = let t = turn (goal.at.returns-in_err-sizes c).After-get16-j-in-arcs in rw c.from_residual.ensures (record {
   kept = but_then t.going.kept c.arrive.ensures.kept;
   safe = tt;
   met = going-over t c.byte-p.ensures.0 (Performing-end _ _ _ _ c.loop-k-test.false c.loop-k.invariant) c.arrive.new.w
-      (told (goal.at.returns-in-TooMany c).After-arrive TooMany c.in-TooMany.is);
-}
+      (told (goal.at.returns-in_err-sizes c).After-arrive None c.in_err-sizes.was);
+})
 
 pub arcs-preserved : goal.arcs-preserved
 arcs-preserved c = going-met (turn (goal.at.arcs-preserved c).After-get16-j-in-arcs) c.byte-p.ensures.0 (Performing-end _ _ _ _ c.loop-k-test.false c.loop-k.invariant)
     c.arrive.ensures.kept
-    (subst (λ (x : Explored). Safe c.arrive.new.w c.arcs.count (c.arcs.plain + 1) x) c.in-Tables.is c.arrive.ensures.safe)
-    (told (goal.at.arcs-preserved c).After-arrive (Tables c.in-Tables.more c.in-Tables.listed) c.in-Tables.is)
+    (subst (λ (x : Option Sizes). Safe c.arrive.new.w c.arcs.sizes.count (c.arcs.sizes.plain + 1) x) c.in_ok-sizes.was c.arrive.ensures.safe)
+    (told (goal.at.arcs-preserved c).After-arrive _ c.in_ok-sizes.was)
 
 pub shape_of-w : goal.shape_of-w
 shape_of-w c = c.arcs.invariant.kept.long
@@ -97,8 +97,8 @@ overflow_add-at-in-loop-k c = omega (arith, (arc-here (turn (goal.at.overflow_ad
 pub overflow_add-at-in-loop-k-2 : goal.overflow_add-at-in-loop-k-2
 overflow_add-at-in-loop-k-2 c = omega (arith, (arc-here (turn (goal.at.overflow_add-at-in-loop-k-2 c).After-get16-j-in-arcs)).fits, c.byte-p.ensures.0)
 
-pub arcs-smaller-in-Failed : goal.arcs-smaller-in-Failed
-arcs-smaller-in-Failed c = going_less (turn (goal.at.arcs-smaller-in-Failed c).After-get16-j-in-arcs)
+pub arcs-smaller-in_default : goal.arcs-smaller-in_default
+arcs-smaller-in_default c = going_less (turn (goal.at.arcs-smaller-in_default c).After-get16-j-in-arcs)
 
 pub arcs-smaller : goal.arcs-smaller
 arcs-smaller c = going_less (turn (goal.at.arcs-smaller c).After-get16-j-in-arcs)

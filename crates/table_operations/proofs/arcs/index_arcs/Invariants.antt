@@ -4,6 +4,3 @@ use Rattle.table_operations.proofs.arcs.index_arcs.Given as goal
 
 abbrev pub invariant-loop-i : goal.invariant-loop-i
 invariant-loop-i l = Indexing l.file l.initial.w l.initial.at l.initial.i l.w l.at l.i
-
-abbrev pub decreases-loop-i : goal.decreases-loop-i
-decreases-loop-i l = l.i

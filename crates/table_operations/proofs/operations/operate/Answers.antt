@@ -5,7 +5,7 @@ use mathlib.Core.Path.{◌≡◌, ap, sym, ◌∙◌}
 use Prim.Native.Nat.{ℕ, ◌+◌, ◌-◌, ◌*◌, ◌/◌, ◌%◌, ◌^◌, ◌<◌}
 use lib.Bits.{bit_and}
 use Rattle.table_operations.specs.Packed.{act_packed, digit, digit_put}
-use Rattle.table_operations.specs.declared.Outcome.TheVariants.{Leaves}
+use Rattle.std.specs.Prelude.{Some}
 use Rattle.table_operations.proofs.PackedWord.{nib, shift-exact, digit_lt, digit-le, put-lt}
 use Rattle.table_operations.proofs.operations.operate.Goals as goal
 
@@ -49,7 +49,7 @@ returns c =
     let a = c.args in
     let r = c.operation_register-s in
     let e = put a.regs r.result a.y (omega arith) (omega arith) in
-    let writes : act_packed a.x a.y a.regs ≡ Leaves (digit_put a.regs r.result a.y) = rw (ne_eqb (a.x / 16) 0 (λ z. c.if-operation_kind-eq0.false (c.operation_kind.ensures ∙ z)), ← r.ensures) in (
-      sym (writes ∙ sym (ap Leaves e)),
+    let writes : act_packed a.x a.y a.regs ≡ Some (digit_put a.regs r.result a.y) = rw (ne_eqb (a.x / 16) 0 (λ z. c.if-operation_kind-eq0.false (c.operation_kind.ensures ∙ z)), ← r.ensures) in (
+      sym (writes ∙ sym (ap Some e)),
       omega (arith, e, put-lt 8 a.regs r.result a.y (omega arith) (omega arith) (omega arith)),
     )

@@ -1,10 +1,9 @@
-use mathlib.Core.Path.{◌≡◌}
 use mathlib.Core.List.{◌++◌, map}
 use Prim.Native.Nat.{◌+◌, ◌-◌}
 use native.Mathlib.Omega.{arith}
 use Rattle.automata.specs.Unfolding.{as_arc}
 use Rattle.format.specs.Encoding.{arcs_bytes}
-use Rattle.file_writing.proofs.Laws.{Left, left-all, left-fits, left_less, left-none}
+use Rattle.file_writing.proofs.Laws.{Left, left-fits, left_less, left-none}
 use Rattle.table.specs.Face.{plains_leaving, plains_of_many}
 use Rattle.unfold.proofs.ListedBytes.{many-next, many-none}
 use Rattle.unfold.proofs.arcs.write_arcs.Goals as goal
@@ -15,10 +14,6 @@ turn : (c : goal.In-loop-s) → Left c.args.at (arcs_bytes (map as_arc (plains_o
     (arcs_bytes (map as_arc (plains_leaving c.args.w.now c.args.block c.loop-s.s)) ++ arcs_bytes (map as_arc (plains_of_many c.args.w.now c.args.block (c.loop-s.s + 1) (c.args.block.count - (c.loop-s.s + 1))))) c.loop-s.out
 turn c = rw (many-next c.args.w.now c.args.block c.args.block.count c.loop-s.s c.loop-s-test.true) at c.loop-s.invariant
 
-pub loop-s-init : goal.loop-s-init
-loop-s-init c = let e : c.args.block.count - 0 ≡ c.args.block.count = omega arith in
-    rw e (left-all c.requires.3)
-
 pub write_some-next-requires : goal.write_some-next-requires
 write_some-next-requires c = let room = left-fits (arcs_bytes (map as_arc (plains_leaving c.args.w.now c.args.block c.loop-s.s))) _ (turn (goal.at.write_some-next-requires c).In-loop-s) in
     (omega (arith, c.loop-s-test.true), rw c.plain_end-to.ensures (c.requires.2 c.loop-s.s c.loop-s-test.true), c.requires.1, rw (c.plain_start-from.ensures, c.plain_end-to.ensures) room)
@@ -28,18 +23,3 @@ loop-s-preserved c = left_less _ (turn (goal.at.loop-s-preserved c).In-loop-s) (
 
 pub returns : goal.returns
 returns c = left-none (rw (many-none c.args.w.now c.args.block c.args.block.count c.loop-s.s c.loop-s-test.false) at c.loop-s.invariant)
-
-pub plain_start-from-requires : goal.plain_start-from-requires
-plain_start-from-requires c = (omega (arith, c.loop-s-test.true, c.requires.0), c.requires.1)
-
-pub plain_end-to-requires : goal.plain_end-to-requires
-plain_end-to-requires c = (c.loop-s-test.true, c.requires.0, c.requires.1)
-
-pub overflow_add-s : goal.overflow_add-s
-overflow_add-s c = omega (arith, c.loop-s-test.true)
-
-pub loop-s-smaller : goal.loop-s-smaller
-loop-s-smaller c = omega (arith, c.loop-s-test.true)
-
-pub shape_of-out : goal.shape_of-out
-shape_of-out c = c.loop-s.invariant.size

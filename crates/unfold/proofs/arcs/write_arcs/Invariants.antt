@@ -9,6 +9,3 @@ use Rattle.unfold.proofs.arcs.write_arcs.Given as goal
 
 abbrev pub invariant-loop-s : goal.invariant-loop-s
 invariant-loop-s l = Left l.at (arcs_bytes (map as_arc (plains_of_many l.w l.block 0 l.block.count))) l.initial.out l.next (arcs_bytes (map as_arc (plains_of_many l.w l.block l.s (l.block.count - l.s)))) l.out
-
-abbrev pub decreases-loop-s : goal.decreases-loop-s
-decreases-loop-s l = l.block.count - l.s

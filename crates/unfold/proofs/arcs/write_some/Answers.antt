@@ -4,7 +4,7 @@ use native.Mathlib.Omega.{arith}
 use Rattle.automata.specs.Unfolding.{as_arc}
 use Rattle.format.specs.Encoding.{arc_bytes, arcs_bytes}
 use Rattle.file_arc_writing.proofs.Laws.{arc-length}
-use Rattle.file_writing.proofs.Laws.{Left, left-all, left-fits, left_less, left-none}
+use Rattle.file_writing.proofs.Laws.{Left, left-fits, left_less, left-none}
 use Rattle.table.specs.Face.{plain_at, plains_between}
 use Rattle.unfold.proofs.ListedBytes.{listed_next, listed-none}
 use Rattle.unfold.proofs.arcs.write_some.Goals as goal
@@ -25,9 +25,3 @@ loop-i-preserved c = left_less {bytes = arc_bytes (as_arc (plain_at c.args.w.now
 
 pub returns : goal.returns
 returns c = left-none (rw (listed-none c.args.w.now c.args.block c.args.source c.loop-i.i c.args.to c.loop-i-test.false) at c.loop-i.invariant)
-
-pub loop-i-init : goal.loop-i-init
-loop-i-init c = left-all c.requires.3
-
-pub shape_of-out : goal.shape_of-out
-shape_of-out c = c.loop-i.invariant.size

@@ -1,7 +1,6 @@
 use mathlib.Core.Path.{◌∙◌, ap}
 use mathlib.Core.List.{[], ◌∷◌}
 use Prim.Native.Nat.{◌+◌}
-use native.Mathlib.Omega.{arith}
 use Rattle.format.specs.Encoding.{flag_byte}
 use Rattle.file_writing.proofs.Laws.{Left, left-all, left-fits, left_less, left-none}
 use Rattle.unfold.proofs.CountedLists.{counted_next, counted_none}
@@ -25,15 +24,3 @@ loop-i-preserved c = let e = c.flag_of-flag.ensures ∙ ap flag_byte c.has.ensur
 
 pub returns : goal.returns
 returns c = rw (flags-all c.args.finals c.args.n) (left-none (rw (counted_none (flag_in c.args.finals) c.loop-i.i c.args.n c.loop-i-test.false) at c.loop-i.invariant))
-
-pub has-requires : goal.has-requires
-has-requires c = omega (arith, c.requires.0)
-
-pub overflow_add-i : goal.overflow_add-i
-overflow_add-i c = omega (arith, c.loop-i-test.true)
-
-pub loop-i-smaller : goal.loop-i-smaller
-loop-i-smaller c = omega (arith, c.loop-i-test.true)
-
-pub shape_of-out : goal.shape_of-out
-shape_of-out c = c.loop-i.invariant.size

@@ -1,5 +1,4 @@
 -- `word_fields::chains::add_word` meets its contract: the word and its chain lie apart.
-use borrow.Author.Rules.{rules}
 use native.Mathlib.Omega.{arith}
 use mathlib.Core.Path.{◌∙◌}
 use lib.ListN.{length-set}

@@ -1,12 +1,8 @@
 -- `word_fields::chains::find_word` meets its contract. The loop's invariant: g is an entry of the chain of x's key, and no later word is x (Looked).
-use borrow.Author.Rules.{rules}
-use native.Mathlib.Omega.{arith}
-use mathlib.Core.Path.{ap, ◌∙◌}
 use Prim.Native.Nat.{◌+◌, ◌%◌}
 use lib.ListN.{get_or}
-use Rattle.word_fields.specs.Fields.{field}
 use Rattle.word_fields.specs.Chains.{slot, WordAt}
-use Rattle.word_fields.proofs.Lookup.{Looked, Looked-start, Looked-more, Looked-end, found-hit}
+use Rattle.word_fields.proofs.Lookup.{Looked}
 use Rattle.word_fields.proofs.chains.find_word.Given as goal
 
 abbrev pub invariant-loop-g : goal.invariant-loop-g

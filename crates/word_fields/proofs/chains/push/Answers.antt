@@ -1,5 +1,4 @@
 -- `word_fields::chains::push` meets its contract: two fields are written, in words that a chain never shares.
-use borrow.Author.Rules.{rules}
 use Rattle.word_fields.proofs.FrameLaws.{beside}
 use Rattle.word_fields.proofs.ChainLaws.{pushed}
 use Rattle.word_fields.proofs.chains.push.Goals as goal

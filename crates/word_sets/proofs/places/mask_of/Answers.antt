@@ -2,7 +2,6 @@
 use mathlib.Core.Path.{◌∙◌, ap}
 use Prim.Native.Nat.{ℕ, ◌^◌}
 use native.Mathlib.Omega.{arith}
-use borrow.Author.Rules.{rules}
 use Rattle.word_sets.proofs.Bits.{one_shl}
 use Rattle.word_sets.proofs.places.mask_of.Goals as goal
 

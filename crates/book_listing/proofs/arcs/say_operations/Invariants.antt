@@ -1,6 +1,0 @@
--- The measure is the number of bytes that are left.
-use Rattle.std.proofs.Common.{length, ◌-◌}
-use Rattle.book_listing.proofs.arcs.say_operations.Given as goal
-
-abbrev pub decreases-loop-i : goal.decreases-loop-i
-decreases-loop-i l = length l.s - l.i

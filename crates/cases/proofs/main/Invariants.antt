@@ -1,8 +1,0 @@
--- `cases::main` meets its contract. The loop's invariant says nothing; the measure is the number of turns left.
-use Rattle.cases.proofs.main.Given as goal
-
-abbrev pub invariant-loop-turns : goal.invariant-loop-turns
-invariant-loop-turns l = Unit {0}
-
-abbrev pub decreases-loop-turns : goal.decreases-loop-turns
-decreases-loop-turns l = l.turns

@@ -1,0 +1,15 @@
+-- `live_letters::met_by_some` meets its contract: a digit of the union of two words is a digit of one.
+use Rattle.std.proofs.Common.{◌≡◌, ◌∙◌, ◌||◌, Bool, true, false, below_more, get_or, refl, sym}
+use Rattle.word_sets.specs.Sets.{bit}
+use Rattle.word_sets.proofs.Laws.{bit-or}
+use Rattle.live_letters.proofs.met_by_some.Goals as goal
+
+neither : (p q : Bool) → (p || q) ≡ false → (p ≡ false) × (q ≡ false)
+neither false q e = (refl, e)
+neither true q e = absurd (cc)
+
+pub loop-side-preserved : goal.loop-side-preserved
+loop-side-preserved g c = λ k e.
+    let side = get_or c.args.met c.loop-side.side-index 0 in
+    let o = neither (bit c.loop-side.some k) (bit side k) (sym (bit-or c.loop-side.some side k) ∙ e) in
+    below_more _ _ (c.loop-side.invariant k o.0) o.1

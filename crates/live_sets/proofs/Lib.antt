@@ -1,4 +1,0 @@
-pub mod SameRow
-pub mod MetAllLaws
-pub mod MeetAll
-pub mod Laws
