@@ -29,7 +29,7 @@ impl<'a> Front<'a> {
 }
 
 // The mark, the version and the counts. Cost: constant.
-fn put_header(front: &mut Front<'_>, draft: &Draft<'_>) {
+fn put_header(front: &mut Front<'_>, draft: Draft<'_>) {
     let [letters, ..] = draft.letters.len().to_le_bytes();
     let [states, more_states, ..] = draft.states.len().to_le_bytes();
     let [symbols, ..] = draft.symbol_count().to_le_bytes();
@@ -49,14 +49,14 @@ fn operation_bytes(operation: Operation) -> [u8; 2] {
 }
 
 // Writes the file to the front of the output, and answers how many bytes it has. Cost: one pass over it.
-pub fn build(draft: &Draft<'_>, out: &mut [u8]) -> usize {
+pub fn build(draft: Draft<'_>, out: &mut [u8]) -> usize {
     let mut front = Front { bytes: out, end: 0 };
     put_header(&mut front, draft);
-    front.put_all(&draft.letters);
-    for state in &draft.states {
+    front.put_all(draft.letters);
+    for state in draft.states {
         front.put(u8::from(state.is_final));
     }
-    for arc in &draft.arcs {
+    for arc in draft.arcs {
         let [operations, ..] = arc.operations.len().to_le_bytes();
         front.put_all(&[
             arc.source,

@@ -6,7 +6,7 @@ ghost use Rattle.std.specs.Prelude.{IfOk};
 ghost use Rattle.book_assembling.specs.Assembling.{AssembledTo, ValidFront};
 
 use arrayvec::ArrayVec;
-use book_draft::{Draft, Fault, State, TextFault, TextReason};
+use book_draft::{Declarations, Fault, State, TextFault, TextReason};
 use building::build;
 use lines::read_text;
 
@@ -14,10 +14,16 @@ mod arcs;
 mod building;
 mod lines;
 
-// How many bytes of the file stand at the front of the output, and the automaton's states, each with whether a chain of arcs leads to it.
-#[derive(Drop)]
+// How many bytes of the file stand at the front of the output.
+#[derive(Clone, Copy, PartialEq, Eq, Debug)]
 pub struct Assembled {
     pub size: usize,
+}
+
+// The same, and the automaton's states, each with whether a chain of arcs leads to it.
+#[derive(Clone, Drop)]
+pub struct AssembledStates {
+    pub assembled: Assembled,
     pub states: ArrayVec<State, 256>,
 }
 
@@ -34,32 +40,41 @@ fn checked(out: &[u8], n: usize) -> Result<usize, Fault>
     Ok(n)
 }
 
-// The same as `assemble` with the fault at its place. Cost: that of `assemble`.
-fn assemble_or_fault(text: &[u8], out: &mut [u8]) -> Result<Assembled, Fault>
+// Reads the text of the declarations into them, and writes its file; the fault is told at its place. Cost: that of `assemble`.
+fn assemble_declared(declared: &mut Declarations<'_>, out: &mut [u8]) -> Result<Assembled, Fault>
     ensures { IfOk result (λ whole. ValidFront out.new whole.size) }
 {
     if out.len() < 41292 {
         return Err(TextReason::OutputTooShort.at(0));
     }
-    let mut draft = Draft::new(text);
-    read_text(&mut draft)?;
-    if draft.states.is_empty() {
-        return Err(TextReason::NoStates.at(text.len()));
+    read_text(declared)?;
+    if declared.states.is_empty() {
+        return Err(TextReason::NoStates.at(declared.text.len()));
     }
-    let n = build(&draft, out);
+    let n = build(declared.draft(), out);
     let size = checked(out, n)?;
-    draft.mark_reached();
-    Ok(Assembled {
-        size,
-        states: draft.states,
-    })
+    Ok(Assembled { size })
 }
 
-// Writes the file of the automaton that the text tells to the front of `out`, and answers how many bytes it has and its states, or the
-// text's first fault. It is lent room for the longest file; less is told as a fault. The room may hold anything afterwards.
-// Cost: one pass over the text, for each name a look at those that are declared, and for each state a pass over the arcs.
+// Writes the file of the automaton that the text tells to the front of `out`, and answers how many bytes it has, or the text's first
+// fault. It is lent room for the longest file; less is told as a fault. The room may hold anything afterwards.
+// Cost: one pass over the text, and for each name a look at those that are declared.
 pub fn assemble(text: &[u8], out: &mut [u8]) -> Result<Assembled, TextFault>
     ensures { AssembledTo out.new result }
 {
-    assemble_or_fault(text, out).map_err(|fault| fault.told(text))
+    let mut declared = Declarations::new(text);
+    assemble_declared(&mut declared, out).map_err(|fault| fault.told(text))
+}
+
+// The same, and answers the states of the automaton too. Cost: that of `assemble`, and for each state a pass over the arcs.
+pub fn assemble_with_states(text: &[u8], out: &mut [u8]) -> Result<AssembledStates, TextFault>
+    ensures { IfOk result (λ whole. ValidFront out.new whole.assembled.size) }
+{
+    let mut declared = Declarations::new(text);
+    let assembled = assemble_declared(&mut declared, out).map_err(|fault| fault.told(text))?;
+    declared.mark_reached();
+    Ok(AssembledStates {
+        assembled,
+        states: declared.states,
+    })
 }

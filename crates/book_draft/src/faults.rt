@@ -1,5 +1,6 @@
 // The faults of a text: what is wrong, and where.
 ghost use Rattle.std.specs.Prelude.{◌≡◌};
+ghost use Rattle.book_draft.specs.Numbers.{number_of};
 
 use book_tokens::{Place, place_in};
 use std::fmt;
@@ -35,6 +36,39 @@ pub enum TextReason {
 }
 
 impl TextReason {
+    // The number by which it is told. Cost: constant.
+    pub fn number(self) -> u8
+        ensures { result ≡ number_of self }
+    {
+        match self {
+            TextReason::FirstWord => 1,
+            TextReason::Registers => 2,
+            TextReason::RegistersTwice => 3,
+            TextReason::BehindRegisters => 22,
+            TextReason::TooManySymbols => 4,
+            TextReason::SymbolTwice => 5,
+            TextReason::Letter => 6,
+            TextReason::TooManyLetters => 7,
+            TextReason::LetterTwice => 8,
+            TextReason::LetterBehindAnArc => 9,
+            TextReason::TooManyStates => 10,
+            TextReason::StateTwice => 11,
+            TextReason::NoState => 12,
+            TextReason::NoLetter => 13,
+            TextReason::WordMissing => 14,
+            TextReason::TooManyArcs => 15,
+            TextReason::TooManyOperations => 16,
+            TextReason::Operation => 17,
+            TextReason::NoRegister => 18,
+            TextReason::RegisterZeroWritten => 19,
+            TextReason::RegisterZeroSymbol => 20,
+            TextReason::NoSymbol => 21,
+            TextReason::NoStates => 23,
+            TextReason::OutputTooShort => 24,
+            TextReason::NoValidFile => 25,
+        }
+    }
+
     // The fault at a place of the text. Cost: constant.
     pub fn at(self, place: usize) -> Fault
         ensures { result ≡ record { what = self; place = place } }

@@ -1,8 +1,9 @@
 // book_draft: what a text has told so far: registers, symbols, letters, states and which of them are final, arcs. Names are kept as the
-// places where the text has them. What is declared takes its place in the draft, or is refused with its fault, which ends the reading.
+// places where the text has them. What is declared takes its place in the lists, or is refused with its fault, which ends the reading.
 #![tactic(auto)]
 
-ghost use Rattle.std.specs.Prelude.{◌≡◌, ◌+◌, ◌∷◌, ◌++◌, [], false, length, IfOk, OnOk, OnErr};
+ghost use Rattle.std.specs.Prelude.{◌≡◌, ◌∷◌, ◌++◌, [], false, length, IfOk, OnOk, OnErr};
+ghost use Rattle.book_draft.specs.Letters.{IsInserted};
 
 use arrayvec::ArrayVec;
 use book_tokens::{Word, same_words};
@@ -40,7 +41,7 @@ pub struct Operation {
 }
 
 // An arc, by the numbers of its states and of its letter; the empty move has no letter.
-#[derive(Debug, Default, Drop)]
+#[derive(Clone, Debug, Default, Drop)]
 pub struct Arc {
     pub source: u8,
     pub letter: Option<u8>,
@@ -48,15 +49,15 @@ pub struct Arc {
     pub operations: ArrayVec<Operation, 8>,
 }
 
-// How far the reading of a text came. There are no registers where no line told their number.
-#[derive(Drop)]
+// How far the reading of a text came, to be read and handed on. There are no registers where no line told their number.
+#[derive(Clone, Copy)]
 pub struct Draft<'a> {
     pub text: &'a [u8],
     pub registers: Option<u8>,
-    pub symbols: ArrayVec<Word, 16>,
-    pub letters: ArrayVec<u8, 64>,
-    pub states: ArrayVec<State, 256>,
-    pub arcs: ArrayVec<Arc, 2048>,
+    pub symbols: &'a [Word],
+    pub letters: &'a [u8],
+    pub states: &'a [State],
+    pub arcs: &'a [Arc],
 }
 
 // The place of the first for which this holds, which is below 256. Cost: a look at each.
@@ -67,10 +68,49 @@ fn number_where<T, F: Fn(&T) -> bool>(list: &[T], is_wanted: F) -> Option<u8>
     u8::try_from(place).ok()
 }
 
-impl<'a> Draft<'a> {
+impl Draft<'_> {
+    // How many registers there are: 1 where no line told it. Cost: constant.
+    pub fn register_count(self) -> u8 {
+        self.registers.unwrap_or(1)
+    }
+
+    // How many symbols there are: 1, without a name, where no line told any. Cost: constant.
+    pub fn symbol_count(self) -> usize {
+        self.symbols.len().max(1)
+    }
+
+    // The number of the symbol with this name. Cost: a look at each symbol.
+    pub fn symbol_named(self, word: Word) -> Option<u8> {
+        number_where(self.symbols, |name| same_words(self.text, *name, word))
+    }
+
+    // The number of the state with this name. Cost: a look at each state.
+    pub fn state_named(self, word: Word) -> Option<u8> {
+        number_where(self.states, |state| same_words(self.text, state.name, word))
+    }
+
+    // The number of the letter that the byte stands for, in whichever case the list has it. Cost: a look at each letter.
+    pub fn letter_number(self, byte: u8) -> Option<u8> {
+        let wanted = key_of(byte);
+        number_where(self.letters, |letter| key_of(*letter) == wanted)
+    }
+}
+
+// The lists of what a text declares, which grow as it is read.
+#[derive(Clone, Drop)]
+pub struct Declarations<'a> {
+    pub text: &'a [u8],
+    pub registers: Option<u8>,
+    pub symbols: ArrayVec<Word, 16>,
+    pub letters: ArrayVec<u8, 64>,
+    pub states: ArrayVec<State, 256>,
+    pub arcs: ArrayVec<Arc, 2048>,
+}
+
+impl<'a> Declarations<'a> {
     // Of a text of which nothing is read. Cost: constant.
-    pub fn new(text: &'a [u8]) -> Draft<'a> {
-        Draft {
+    pub fn new(text: &'a [u8]) -> Declarations<'a> {
+        Declarations {
             text,
             registers: None,
             symbols: ArrayVec::new(),
@@ -80,32 +120,20 @@ impl<'a> Draft<'a> {
         }
     }
 
-    // How many registers there are: 1 where no line told it. Cost: constant.
-    pub fn register_count(&self) -> u8 {
-        self.registers.unwrap_or(1)
-    }
-
-    // How many symbols there are: 1, without a name, where no line told any. Cost: constant.
-    pub fn symbol_count(&self) -> usize {
-        self.symbols.len().max(1)
-    }
-
-    // The number of the symbol with this name. Cost: a look at each symbol.
-    pub fn symbol_named(&self, word: Word) -> Option<u8> {
-        let text = self.text;
-        number_where(&self.symbols, |name| same_words(text, *name, word))
-    }
-
-    // The number of the state with this name. Cost: a look at each state.
-    pub fn state_named(&self, word: Word) -> Option<u8> {
-        let text = self.text;
-        number_where(&self.states, |state| same_words(text, state.name, word))
-    }
-
-    // The number of the letter that the byte stands for, in whichever case the list has it. Cost: a look at each letter.
-    pub fn letter_number(&self, byte: u8) -> Option<u8> {
-        let wanted = key_of(byte);
-        number_where(&self.letters, |letter| key_of(*letter) == wanted)
+    // What was declared so far. Cost: constant.
+    pub fn draft(&self) -> Draft<'_>
+        ensures text { (result.text.now ≡ self.now.text.now) × (result.registers ≡ self.now.registers) }
+        ensures names { (result.symbols.now ≡ self.now.symbols.items) × (result.states.now ≡ self.now.states.items) }
+        ensures letters { (result.letters.now ≡ self.now.letters.items) × (result.arcs.now ≡ self.now.arcs.items) }
+    {
+        Draft {
+            text: self.text,
+            registers: self.registers,
+            symbols: &self.symbols,
+            letters: &self.letters,
+            states: &self.states,
+            arcs: &self.arcs,
+        }
     }
 
     // One symbol more. Cost: a look at each symbol.
@@ -116,7 +144,7 @@ impl<'a> Draft<'a> {
         if self.symbols.is_full() {
             return Err(TextReason::TooManySymbols.at(word.from));
         }
-        if self.symbol_named(word).is_some() {
+        if self.draft().symbol_named(word).is_some() {
             return Err(TextReason::SymbolTwice.at(word.from));
         }
         self.symbols.push(word);
@@ -125,7 +153,7 @@ impl<'a> Draft<'a> {
 
     // One letter more, which stands in its place by its byte whatever the order of the text. Cost: two looks at each letter.
     pub fn add_letter(&mut self, word: Word) -> Result<(), Fault>
-        ensures added { OnOk result (length self.new.letters.items ≡ length self.old.letters.items + 1) }
+        ensures added { OnOk result (IsInserted self.old.letters.items self.new.letters.items) }
         ensures refused { OnErr result (self.new ≡ self.old) }
     {
         if !self.arcs.is_empty() {
@@ -137,7 +165,7 @@ impl<'a> Draft<'a> {
         if self.letters.is_full() {
             return Err(TextReason::TooManyLetters.at(word.from));
         }
-        if self.letter_number(byte).is_some() {
+        if self.draft().letter_number(byte).is_some() {
             return Err(TextReason::LetterTwice.at(word.from));
         }
         let count = self.letters.len();
@@ -168,7 +196,7 @@ impl<'a> Draft<'a> {
         ensures added { OnOk result (self.new.states.items ≡ self.old.states.items ++ (record { name = word; is_final = false; is_reached = false }) ∷ []) }
         ensures refused { OnErr result (self.new ≡ self.old) }
     {
-        if self.state_named(word).is_some() {
+        if self.draft().state_named(word).is_some() {
             return Err(TextReason::StateTwice.at(word.from));
         }
         self.new_state(word, word.from)?;
@@ -179,7 +207,7 @@ impl<'a> Draft<'a> {
     pub fn add_final(&mut self, word: Word) -> Result<(), Fault>
         ensures { OnErr result (self.new ≡ self.old) }
     {
-        let Some(number) = self.state_named(word) else {
+        let Some(number) = self.draft().state_named(word) else {
             return Err(TextReason::NoState.at(word.from));
         };
         if let Some(state) = self.states.get_mut(usize::from(number)) {

@@ -59,10 +59,8 @@ fn place_where<F: Fn(u8) -> bool>(text: &[u8], at: usize, is_wanted: F) -> usize
 }
 
 // Does a comment begin here? Cost: constant.
-fn is_comment(text: &[u8], at: usize) -> bool
-    requires { at ≤ length text.now }
-{
-    text[at..].starts_with(b"--")
+fn is_comment(text: &[u8], at: usize) -> bool {
+    text.get(at..).is_some_and(|rest| rest.starts_with(b"--"))
 }
 
 // The next word of the line from this place on, or none. Cost: the bytes up to its end.
@@ -84,12 +82,10 @@ pub fn next_line(text: &[u8], at: usize) -> usize
     requires { at < length text.now }
     ensures { (at < result) × (result ≤ length text.now) }
 {
-    for (i, b) in text.iter().enumerate().skip(at) {
-        if *b == b'\n' {
-            return i + 1;
-        }
+    match text[at..].iter().position(|b| *b == b'\n') {
+        Some(behind) => at + behind + 1,
+        None => text.len(),
     }
-    text.len()
 }
 
 // The words of a line that are still to come. Cost of each: the bytes up to its end.
@@ -153,18 +149,18 @@ impl<'a> Iterator for Lines<'a> {
 // The line and the column of a place. Cost: one pass over the text up to there.
 pub fn place_in(text: &[u8], at: usize) -> Place {
     let front = &text[..at.min(text.len())];
-    let mut place = Place { line: 1, column: 1 };
-    for b in front {
+    let mut feeds = 0;
+    let mut start = 0;
+    for (i, b) in front.iter().enumerate() {
         if *b == b'\n' {
-            place = Place {
-                line: place.line.saturating_add(1),
-                column: 1,
-            };
-        } else {
-            place.column = place.column.saturating_add(1);
+            feeds += 1;
+            start = i + 1;
         }
     }
-    place
+    Place {
+        line: feeds + 1,
+        column: (front.len() - start) as u64 + 1,
+    }
 }
 
 // Whether two texts are the same bytes. Cost: the bytes up to the first that differs.
@@ -172,12 +168,23 @@ pub fn same_bytes(left: &[u8], right: &[u8]) -> bool {
     left == right
 }
 
-// Whether a word of a text is this one. Cost: its bytes.
-pub fn is_word(text: &[u8], word: Word, other: &[u8]) -> bool {
-    word.bytes(text) == other
+// Whether a word of a text is this one; none is that does not lie in the text. Cost: its bytes.
+pub fn is_word(text: &[u8], word: Word, other: &[u8]) -> bool
+    ensures { T result → (word.from ≤ word.to) × (word.to ≤ length text.now) }
+{
+    match text.get(word.from..word.to) {
+        Some(bytes) => bytes == other,
+        None => false,
+    }
 }
 
-// Whether two words of a text are the same bytes. Cost: their bytes.
-pub fn same_words(text: &[u8], word: Word, other: Word) -> bool {
-    word.bytes(text) == other.bytes(text)
+// Whether two words of a text are the same bytes; none is that does not lie in the text. Cost: their bytes.
+pub fn same_words(text: &[u8], word: Word, other: Word) -> bool
+    ensures word { T result → (word.from ≤ word.to) × (word.to ≤ length text.now) }
+    ensures other { T result → (other.from ≤ other.to) × (other.to ≤ length text.now) }
+{
+    match text.get(other.from..other.to) {
+        Some(bytes) => is_word(text, word, bytes),
+        None => false,
+    }
 }

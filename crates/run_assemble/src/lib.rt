@@ -3,7 +3,7 @@
 // it was. States that no chain of arcs leads to are warned of. The status is 0 where the file was written, else 2.
 #![tactic(auto)]
 
-use book_assembling::assemble;
+use book_assembling::assemble_with_states;
 use book_console::calls::{Status, Usage};
 use book_console::console::{Console, Stream};
 use book_console::files::load;
@@ -20,13 +20,13 @@ const USAGE: Usage = Usage {
 const LONGEST_TEXT: usize = 262144;
 
 // Assembles the text, and saves the file behind its warnings or tells the fault. The output has room for the longest file.
-// Cost: that of `assemble`, of the warnings and of saving.
+// Cost: that of `assemble_with_states`, of the warnings and of saving.
 fn assemble_text(console: &Console, text: &[u8]) -> Status {
     let mut out = [0u8; 41292];
-    match assemble(text, &mut out) {
-        Ok(assembled) => {
-            warn_unreached(console, 0, text, &assembled.states);
-            save_front(console, 1, &out, assembled.size)
+    match assemble_with_states(text, &mut out) {
+        Ok(whole) => {
+            warn_unreached(console, 0, text, &whole.states);
+            save_front(console, 1, &out, whole.assembled.size)
         }
         Err(fault) => {
             say_text_fault(console, 0, &fault);

@@ -1,5 +1,5 @@
 use Rattle.std.proofs.Common.{◌≡◌, length}
-use Rattle.book_draft.proofs.Draft.mark_reached.Given as goal
+use Rattle.book_draft.proofs.Declarations.mark_reached.Given as goal
 
 abbrev pub invariant-loop : goal.invariant-loop
 invariant-loop l =
