@@ -65,7 +65,7 @@ impl Usage {
         requires { F.IsAlwaysCallable body }
         ensures { (result ≡ Yes) ⊎ (result ≡ Failed) ⊎ ((count : ℕ) × F.post body count (Some result)) }
     {
-        let count = console.argument_count();
+        let count = console.own_count();
         if count == Some(1) && is_argument(console, 0, b"--help") {
             return status_of(self.say(console, Stream::Out));
         }

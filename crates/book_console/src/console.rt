@@ -1,6 +1,7 @@
 // What a program has of the system that it runs on: its runtime, which tells its arguments and opens its files, and what its standard
 // output and standard error still take.
-ghost use Rattle.std.specs.Prelude.{◌≡◌, ◌≤◌, T, IfOk, length};
+ghost use Rattle.std.specs.Prelude.{◌≡◌, T, IfOk};
+ghost use Rattle.book_console.specs.Inputs.{IsFrontOf, IsFrontOrEmpty};
 
 use std::cell::Cell;
 use std::env::{Env, FillError};
@@ -142,9 +143,9 @@ impl Console {
         !matches!(self.rt.arg(number, &mut first), Err(FillError::NotPresent))
     }
 
-    // Puts the argument with this number at the front of the buffer; the program's own name is number 0. Cost: the text.
-    fn given<'a>(&self, number: usize, buffer: &'a mut [u8]) -> io::Result<&'a [u8]>
-        ensures { IfOk result (λ text. length text.now ≤ length buffer.old) }
+    // Puts the argument with this number at the front of the buffer, and answers it there; the program's own name is number 0. Cost: the text.
+    pub fn given<'a>(&self, number: usize, buffer: &'a mut [u8]) -> io::Result<&'a [u8]>
+        ensures { IfOk result (IsFrontOf buffer.entry) }
     {
         match self.rt.arg(number, buffer) {
             Ok(n) => Ok(&buffer[..n]),
@@ -153,28 +154,32 @@ impl Console {
         }
     }
 
-    // How many arguments a command was given; nothing where not even what stands in front of these is there. Cost: constant for each.
-    pub fn argument_count(&self) -> Option<usize> {
-        let mut count: usize = 0;
+    // How many arguments the program was started with, its own name among them. Cost: constant for each.
+    pub fn argument_count(&self) -> usize {
         for number in 0..usize::MAX {
             if !self.has_given(number) {
-                break;
+                return number;
             }
-            count = number + 1;
         }
-        count.checked_sub(self.before())
+        usize::MAX
     }
 
-    // Puts an argument of a command at the front of the buffer, its first one being argument 0. Cost: the text.
+    // How many of these are a command's own; nothing where not even what stands in front of them is there. Cost: that of `argument_count`.
+    pub fn own_count(&self) -> Option<usize> {
+        self.argument_count().checked_sub(self.before())
+    }
+
+    // Puts an argument of a command at the front of the buffer, and answers it there; its first one is argument 0. Cost: the text.
     pub fn argument<'a>(&self, argument: usize, buffer: &'a mut [u8]) -> io::Result<&'a [u8]>
-        ensures { IfOk result (λ text. length text.now ≤ length buffer.old) }
+        ensures { IfOk result (IsFrontOf buffer.entry) }
     {
         self.given(argument.saturating_add(self.before()), buffer)
     }
 
-    // Puts the command that the front was given at the front of the buffer; none is empty, and so is one that has no room. Cost: the text.
+    // Puts the command that the front was given at the front of the buffer, and answers it there; none is empty, and so is one that has no
+    // room. Cost: the text.
     pub fn command<'a>(&self, buffer: &'a mut [u8]) -> &'a [u8]
-        ensures { length result.now ≤ length buffer.old }
+        ensures { IsFrontOrEmpty buffer.entry result }
     {
         self.given(1, buffer).unwrap_or(b"")
     }

@@ -1,6 +1,6 @@
 // Files that the program's arguments name. Argument 0 is the first one of the program's own.
-ghost use Rattle.std.specs.Prelude.{◌≤◌, IfOk, IfSome, length};
-ghost use Rattle.book_console.specs.Inputs.{IsPrefixLen};
+ghost use Rattle.std.specs.Prelude.{IfOk, IfSome};
+ghost use Rattle.book_console.specs.Inputs.{IsFrontOf, IsPrefixLen};
 
 use super::console::Console;
 use super::paths::as_text;
@@ -32,10 +32,10 @@ pub fn read_full(file: &mut impl Read, buffer: &mut [u8]) -> usize
     done
 }
 
-// Reads the file of this name to the front of `buffer`, as far as it has room. Where nothing was read, a further read tells whether the file
-// is empty or cannot be read. Cost: one pass over the file, as far as it is read.
+// Reads the file of this name to the front of `buffer`, as far as it has room, and answers its bytes there. Where nothing was read, a further
+// read tells whether the file is empty or cannot be read. Cost: one pass over the file, as far as it is read.
 pub fn read_named<'a>(console: &Console, path: &[u8], buffer: &'a mut [u8]) -> io::Result<&'a [u8]>
-    ensures { IfOk result (λ text. length text.now ≤ length buffer.old) }
+    ensures { IfOk result (IsFrontOf buffer.entry) }
 {
     let path = as_text(path)?;
     let mut file = File::open(&console.rt, path)?;
@@ -46,9 +46,10 @@ pub fn read_named<'a>(console: &Console, path: &[u8], buffer: &'a mut [u8]) -> i
     Ok(&buffer[..n])
 }
 
-// Reads the file of this name to the front of `buffer`, as far as it has room. Cost: one pass over the file, as far as it is read.
+// Reads the file of this name to the front of `buffer`, as far as it has room, and answers its bytes there; nothing where it could not be
+// read, and then it was told why. Cost: one pass over the file, as far as it is read.
 fn load_path<'a>(console: &Console, path: &[u8], buffer: &'a mut [u8]) -> Option<&'a [u8]>
-    ensures { IfSome result (λ bytes. length bytes.now ≤ length buffer.old) }
+    ensures { IfSome result (IsFrontOf buffer.entry) }
 {
     match read_named(console, path, buffer) {
         Ok(bytes) => Some(bytes),
@@ -59,10 +60,10 @@ fn load_path<'a>(console: &Console, path: &[u8], buffer: &'a mut [u8]) -> Option
     }
 }
 
-// Reads the file that an argument names to the front of `buffer`, as far as it has room; nothing where it could not be read, and then it was
-// told why. Cost: one pass over the file, as far as it is read.
+// Reads the file that an argument names to the front of `buffer`, as far as it has room, and answers its bytes there; nothing where it could
+// not be read, and then it was told why. Cost: one pass over the file, as far as it is read.
 pub fn load<'a>(console: &Console, argument: usize, buffer: &'a mut [u8]) -> Option<&'a [u8]>
-    ensures { IfSome result (λ bytes. length bytes.now ≤ length buffer.old) }
+    ensures { IfSome result (IsFrontOf buffer.entry) }
 {
     let mut path = [0u8; 4096];
     match console.argument(argument, &mut path) {

@@ -32,9 +32,12 @@ pub fn tell_refusal(console: &Console, refusal: Refusal, files: &[Named]) {
         say(console, Stream::Err, b": ");
     }
     let reason = refusal.reason;
-    let _ = write!(console.err(), "refused with {}", reason.number());
+    console
+        .err()
+        .text("refused with ")
+        .number(u64::from(reason.number()));
     if let Some(place) = fault.and_then(|file| fault_place(file.bytes)) {
-        let _ = write!(console.err(), " at byte {place}");
+        console.err().text(" at byte ").number(place as u64);
     }
     let _ = writeln!(console.err(), ": {reason}");
 }

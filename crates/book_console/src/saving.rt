@@ -2,7 +2,7 @@
 // written to a new file beside it, which then takes its name.
 use super::calls::{Status, status_of};
 use super::console::{Console, EEXIST, ENAMETOOLONG};
-use super::paths::{Name, as_text, is_open_file, name_beside, resolve};
+use super::paths::{Name, as_text, follow_links, is_open_file, named, new_name};
 use super::words::{fail, write_out};
 use arrayvec::ArrayString;
 use std::fmt::Write as _;
@@ -31,7 +31,7 @@ struct Made {
 // take a second opening for another text.
 // Cost: a few calls.
 fn target_at(console: &Console, path: &str) -> io::Result<Target> {
-    if is_open_file(path) {
+    if is_open_file(path.as_bytes()) {
         return Ok(Target::Named);
     }
     let file = match OpenOptions::new().append(true).open(&console.rt, path) {
@@ -78,7 +78,7 @@ fn make_named(console: &Console, name: &str) -> io::Result<File> {
 // Makes a file beside the path. Cost: one call, and one more for each name that is taken.
 fn make_beside(console: &Console, path: &str) -> io::Result<Made> {
     for tried in 0..100 {
-        let Some(name) = name_beside(path, tried) else {
+        let Some(name) = new_name(path, tried) else {
             return Err(io::Error::from_raw_os_error(ENAMETOOLONG));
         };
         match make_named(console, name.as_str()) {
@@ -126,7 +126,8 @@ fn save_at(console: &Console, path: &str, bytes: &[u8]) -> io::Result<()> {
 // Cost: one pass over the bytes.
 fn save_given<'a>(console: &Console, told: &'a [u8], bytes: &[u8]) -> io::Result<&'a str> {
     let name = as_text(told)?;
-    let path = resolve(console, name)?;
+    let mut path = named(name)?;
+    follow_links(console, &mut path)?;
     save_at(console, path.as_str(), bytes)?;
     Ok(name)
 }

@@ -5,7 +5,7 @@ ghost use Rattle.book_console.specs.declared.console.Stream.TheVariants.{Out, Er
 
 use super::console::{Console, Stream, is_not_open};
 use arrayvec::ArrayString;
-use std::fmt::Write;
+use std::fmt::{Display, Write};
 use std::{fmt, io};
 
 // The text of an error without the number that the system has for it. Cost: the text.
@@ -60,8 +60,10 @@ pub fn write_out(console: &Console, bytes: &[u8]) -> bool {
     }
 }
 
-// Standard output or standard error as a writer for `write!`, that takes each part of a text as `say` does.
-#[derive(Drop)]
+// Standard output or standard error, on which a line is said piece by piece, each in one write: `console.out().text("arc ").number(3)`. For
+// `write!` it is a writer that takes each part of a text as `text` does; a number and a byte have methods of their own, since a failure of
+// theirs is not told.
+#[derive(Clone, Copy)]
 pub struct Sayer<'a> {
     console: &'a Console,
     stream: Stream,
@@ -109,14 +111,52 @@ impl<'a> fmt::Write for Sayer<'a> {
     }
 }
 
-// A number in decimal. Cost: its digits.
-pub fn say_number(console: &Console, stream: Stream, n: u64) {
-    let _ = write!(console.on(stream), "{n}");
+impl<'a> Sayer<'a> {
+    // Says the text as `say` does, and answers the same stream for what stands behind it. Cost: the text.
+    pub fn text(self, text: &str) -> Sayer<'a>
+        ensures { result.stream ≡ self.entry.stream }
+    {
+        say(self.console, self.stream, text.as_bytes());
+        self
+    }
+
+    // Says the digits in one write, and answers the same stream. That it failed is not told: each line has text behind its numbers, and that
+    // text's writing tells what failed. Cost: the digits.
+    fn digits<D: Display + Drop>(self, digits: D) -> Sayer<'a>
+        ensures { result.stream ≡ self.entry.stream }
+    {
+        if !self.console.is_ended(self.stream) {
+            let _ = match self.stream {
+                Stream::Out => self.console.rt.print(digits),
+                Stream::Err => self.console.rt.eprint(digits),
+            };
+        }
+        self
+    }
+
+    // Says a number in decimal, and answers the same stream. Text has to stand behind it, whose writing tells what failed. Cost: its digits.
+    pub fn number(self, n: u64) -> Sayer<'a>
+        ensures { result.stream ≡ self.entry.stream }
+    {
+        self.digits(n)
+    }
+
+    // Says a byte in two hexadecimal digits, and answers the same stream. Text has to stand behind it, as behind a number. Cost: constant.
+    pub fn hex(self, byte: u8) -> Sayer<'a>
+        ensures { result.stream ≡ self.entry.stream }
+    {
+        self.digits(format_args!("{byte:02x}"))
+    }
 }
 
-// A byte in two hexadecimal digits, on standard output. Cost: constant.
+// A number in decimal. Each line has text behind its numbers, and that text's writing tells what failed. Cost: its digits.
+pub fn say_number(console: &Console, stream: Stream, n: u64) {
+    console.on(stream).number(n);
+}
+
+// A byte in two hexadecimal digits, on standard output. Its line has text behind it, whose writing tells what failed. Cost: constant.
 pub fn say_hex(console: &Console, byte: u8) {
-    let _ = write!(console.out(), "{byte:02x}");
+    console.out().hex(byte);
 }
 
 // The argument as it was given. Cost: the text.

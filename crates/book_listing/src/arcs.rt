@@ -1,45 +1,33 @@
 // The arcs of a file that stand whole in front of the fault, and their lines in the text format.
 ghost use Rattle.std.specs.Iterator.{at_most};
-ghost use Rattle.std.specs.Prelude.{◌<◌, ◌≤◌, ◌-◌, IfSome, length};
+ghost use Rattle.std.specs.Prelude.{◌≡◌, ◌<◌, ◌≤◌, ◌-◌, IfSome, length};
 
-use super::parts::Letter;
+use super::parts::say_letter;
 use book_console::console::Console;
+use book_console::words::Sayer;
 use book_tokens::byte_at;
 use file_fields::fields::{arc_size, operation_kind, operation_register};
-use std::fmt;
-use std::fmt::{Display, Write};
 
-// An operation, shown as `R1=2` or `W1=2`; `writes` is the sign of a write.
-#[derive(Clone, Copy)]
-struct Operation<'a> {
-    first: u8,
-    symbol: u8,
-    writes: &'a str,
+// Says an operation as `R1=2` or `W1=2` behind a space; `writes` is the sign of a write. The space stands in one piece with the letter behind
+// it, since each piece that is said is a write of its own. Cost: constant.
+fn say_operation(line: Sayer<'_>, first: u8, symbol: u8, writes: &str) {
+    let (letter, sign) = if operation_kind(usize::from(first)) == 0 {
+        (" R", "=")
+    } else {
+        (" W", writes)
+    };
+    line.text(letter)
+        .number(operation_register(usize::from(first)) as u64)
+        .text(sign)
+        .number(u64::from(symbol));
 }
 
-impl<'a> Display for Operation<'a> {
-    fn fmt<W: fmt::Write>(&self, f: &mut fmt::Formatter<W>) -> fmt::Result {
-        let first = usize::from(self.first);
-        let register = operation_register(first);
-        if operation_kind(first) == 0 {
-            return write!(f, "R{register}={}", self.symbol);
-        }
-        write!(f, "W{register}{}{}", self.writes, self.symbol)
-    }
-}
-
-// The letter of an arc, whose number is that of its place among the letters, or that it has none.
-#[derive(Clone, Copy)]
-struct ArcLetter<'a> {
-    letters: &'a [u8],
-    number: u8,
-}
-
-impl<'a> Display for ArcLetter<'a> {
-    fn fmt<W: fmt::Write>(&self, f: &mut fmt::Formatter<W>) -> fmt::Result {
-        match self.letters.get(usize::from(self.number)) {
-            Some(letter) => write!(f, "{}", Letter(*letter)),
-            None => f.write_str("empty"),
+// Says the letter of an arc, whose number is that of its place among the letters, or that it has none. Cost: constant.
+fn say_arc_letter(line: Sayer<'_>, letters: &[u8], number: u8) {
+    match letters.get(usize::from(number)) {
+        Some(letter) => say_letter(line, *letter),
+        None => {
+            line.text("empty");
         }
     }
 }
@@ -97,18 +85,13 @@ impl<'a> Arc<'a> {
             return;
         }
         for bytes in self.operations().chunks_exact(2) {
-            let operation = Operation {
-                first: byte_at(bytes, 0),
-                symbol: byte_at(bytes, 1),
-                writes,
-            };
-            let _ = write!(console.out(), " {operation}");
+            say_operation(console.out(), byte_at(bytes, 0), byte_at(bytes, 1), writes);
         }
     }
 }
 
 // Where the arc at a place ends; nothing where it does not stand there whole. Cost: constant.
-fn arc_end(s: &[u8], at: usize) -> Option<usize>
+pub fn arc_end(s: &[u8], at: usize) -> Option<usize>
     ensures { IfSome result (λ end. (at < end) × (end ≤ length s.now)) }
 {
     if s.len() < 4 || s.len() - 4 < at {
@@ -144,25 +127,21 @@ impl<'a> Iterator for Arcs<'a> {
     }
 }
 
-// The arcs of `bytes`. Cost: constant.
-pub(crate) fn whole_arcs(bytes: &[u8]) -> Arcs<'_> {
+// The arcs from the front of `bytes` on that stand there whole. Cost: constant.
+pub fn whole_arcs(bytes: &[u8]) -> Arcs<'_>
+    ensures { (result.bytes.now ≡ bytes.now) × (result.at ≡ 0) }
+{
     Arcs { bytes, at: 0 }
 }
 
 // The lines of the arcs from the front of s on that stand there whole. Cost: one pass over them.
 pub fn list_arcs(console: &Console, letters: &[u8], s: &[u8]) {
     for arc in whole_arcs(s) {
-        let letter = ArcLetter {
-            letters,
-            number: arc.letter(),
-        };
-        let _ = write!(
-            console.out(),
-            "arc {} {letter} {}",
-            arc.source(),
-            arc.target()
-        );
+        let line = console.out();
+        line.text("arc ").number(u64::from(arc.source())).text(" ");
+        say_arc_letter(line, letters, arc.letter());
+        line.text(" ").number(u64::from(arc.target()));
         arc.say_operations(console, "=");
-        let _ = writeln!(console.out());
+        line.text("\n");
     }
 }

@@ -1,11 +1,10 @@
 // A graph in the DOT language: the states as nodes, the arcs as edges. Arcs between the same two states are one edge; those of them with
 // the same operations are one line of its label, which lists their letters.
 use super::arcs::{Arc, whole_arcs};
-use super::parts::Letter;
+use super::parts::{say_letter, say_letter_as_byte};
 use book_console::console::Console;
+use book_console::words::Sayer;
 use book_tokens::byte_at;
-use std::fmt;
-use std::fmt::{Display, Write};
 
 // What stands in front of the nodes. The margins are narrow, so that many states fit a page.
 const FRONT: &str =
@@ -39,28 +38,23 @@ impl Gathered {
     }
 }
 
-// A letter in a label, where a comma, a hyphen, a quote and a backslash have a meaning: those by their bytes.
-#[derive(Clone, Copy)]
-struct Label(u8);
-
-impl Display for Label {
-    fn fmt<W: fmt::Write>(&self, f: &mut fmt::Formatter<W>) -> fmt::Result {
-        match self.0 {
-            b',' | b'-' | b'"' | b'\\' => write!(f, "0x{:02x}", self.0),
-            letter => write!(f, "{}", Letter(letter)),
-        }
+// Says a letter in a label, where a comma, a hyphen, a quote and a backslash have a meaning: those by their bytes. Cost: constant.
+fn label_letter(label: Sayer<'_>, letter: u8) {
+    match letter {
+        b',' | b'-' | b'"' | b'\\' => say_letter_as_byte(label, letter),
+        _ => say_letter(label, letter),
     }
 }
 
 // What stands in front of the nodes. Cost: the text.
 pub fn begin_graph(console: &Console) {
-    let _ = console.out().write_str(FRONT);
+    console.out().text(FRONT);
 }
 
 // The direction of a graph: few states stand beside one another, many below one another, where labels take less room. Cost: the text.
 pub fn direct_graph(console: &Console, states: usize) {
     if states < 50 {
-        let _ = writeln!(console.out(), "  rankdir=LR;");
+        console.out().text("  rankdir=LR;\n");
     }
 }
 
@@ -72,20 +66,26 @@ pub fn draw_states(console: &Console, flags: &[u8]) {
         } else {
             ""
         };
-        let _ = writeln!(console.out(), "  {state}{shape};");
+        console
+            .out()
+            .text("  ")
+            .number(state as u64)
+            .text(shape)
+            .text(";\n");
     }
 }
 
 // A run of letters, from one number up to the one in front of `to`: one by itself, two with a comma, more as their first and their last.
 // Cost: constant.
 fn label_run(console: &Console, list: &[u8], from: usize, to: usize) {
-    let first = Label(byte_at(list, from));
-    let last = Label(byte_at(list, to.saturating_sub(1)));
-    let _ = match to.saturating_sub(from) {
-        0 | 1 => write!(console.out(), "{first}"),
-        2 => write!(console.out(), "{first},{last}"),
-        _ => write!(console.out(), "{first}-{last}"),
+    let label = console.out();
+    label_letter(label, byte_at(list, from));
+    let between = match to.saturating_sub(from) {
+        0 | 1 => return,
+        2 => ",",
+        _ => "-",
     };
+    label_letter(label.text(between), byte_at(list, to.saturating_sub(1)));
 }
 
 // The letters of an edge, run by run, with commas between. Cost: the letters.
@@ -94,7 +94,7 @@ fn label_letters(console: &Console, list: &[u8], g: Gathered) {
     for i in 0..list.len() {
         if g.begins(i) {
             if is_behind {
-                let _ = write!(console.out(), ",");
+                console.out().text(",");
             }
             is_behind = true;
             let end = (i..list.len()).find(|j| !g.has(*j));
@@ -120,11 +120,11 @@ fn gather<'a>(arc: &Arc<'a>, s: &'a [u8]) -> Gathered {
 // A line of a label: letters, and behind a stroke operations. Cost: the line.
 fn say_line<'a>(console: &Console, list: &[u8], arc: &Arc<'a>, g: Gathered) {
     if g.is_empty {
-        let _ = write!(console.out(), "empty");
+        console.out().text("empty");
     }
     label_letters(console, list, g);
     if !arc.is_plain() {
-        let _ = write!(console.out(), " /");
+        console.out().text(" /");
     }
     arc.say_operations(console, ":=");
 }
@@ -137,7 +137,7 @@ fn say_lines<'a>(console: &Console, list: &[u8], edge: &Arc<'a>, s: &'a [u8]) {
             && !whole_arcs(arc.in_front).any(|other| arc.is_parallel(&other))
         {
             if whole_arcs(arc.in_front).any(|other| arc.has_same_ends(&other)) {
-                let _ = write!(console.out(), "\\n");
+                console.out().text("\\n");
             }
             say_line(console, list, &arc, gather(&arc, s));
         }
@@ -149,14 +149,15 @@ fn say_lines<'a>(console: &Console, list: &[u8], edge: &Arc<'a>, s: &'a [u8]) {
 pub fn draw_arcs(console: &Console, list: &[u8], s: &[u8]) {
     for arc in whole_arcs(s) {
         if !whole_arcs(arc.in_front).any(|other| arc.has_same_ends(&other)) {
-            let _ = write!(
-                console.out(),
-                "  {} -> {} [label=\"",
-                arc.source(),
-                arc.target()
-            );
+            console
+                .out()
+                .text("  ")
+                .number(u64::from(arc.source()))
+                .text(" -> ")
+                .number(u64::from(arc.target()))
+                .text(" [label=\"");
             say_lines(console, list, &arc, s);
-            let _ = writeln!(console.out(), "\"];");
+            console.out().text("\"];\n");
         }
     }
 }

@@ -57,29 +57,39 @@ pub struct Listing;
 impl Style for Listing {
     // The file's length, as a comment. Cost: the line.
     fn begin(&self, console: &Console, length: usize) {
-        let _ = writeln!(console.out(), "-- {length} bytes");
+        console
+            .out()
+            .text("-- ")
+            .number(length as u64)
+            .text(" bytes\n");
     }
 
     // A comment. Cost: the line.
     fn counts(&self, console: &Console, c: Counts) {
-        let Counts {
-            letters,
-            states,
-            registers,
-            symbols,
-            arcs,
-        } = c;
-        let _ = write!(
-            console.out(),
-            "-- {letters} letters, {states} states, {registers} registers, {symbols} symbols, {arcs} arcs\n"
-        );
+        console
+            .out()
+            .text("-- ")
+            .number(c.letters as u64)
+            .text(" letters, ")
+            .number(c.states as u64)
+            .text(" states, ")
+            .number(c.registers as u64)
+            .text(" registers, ")
+            .number(c.symbols as u64)
+            .text(" symbols, ")
+            .number(c.arcs as u64)
+            .text(" arcs\n");
     }
 
     // The lines of both, whose names are their numbers. Cost: the lines.
     fn registers(&self, console: &Console, c: Counts) {
-        let _ = write!(console.out(), "registers {}\nsymbols", c.registers);
+        console
+            .out()
+            .text("registers ")
+            .number(c.registers as u64)
+            .text("\nsymbols");
         say_names(console, c.symbols);
-        let _ = writeln!(console.out());
+        console.out().text("\n");
     }
 
     // Their line. Cost: the letters.
@@ -142,12 +152,12 @@ impl Style for Drawing {
 
     // The fault stands in the graph as a comment. Cost: the text.
     fn begin_fault(&self, console: &Console) {
-        let _ = write!(console.out(), "  // ");
+        console.out().text("  // ");
     }
 
     // The closing brace. Cost: the text.
     fn end_fault(&self, console: &Console) {
-        let _ = writeln!(console.out(), "}}");
+        console.out().text("}\n");
     }
 
     // The closing brace. Cost: the text.

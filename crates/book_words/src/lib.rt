@@ -3,7 +3,8 @@
 // written when it has no room for a further line, before the input is waited for, and before anything is told on standard error.
 #![tactic(auto)]
 
-ghost use Rattle.std.specs.Prelude.{◌≡◌, ◌≤◌, ◌<◌, length};
+ghost use Rattle.std.specs.Prelude.{◌≡◌, ◌≤◌, ◌<◌, T, length};
+ghost use Rattle.book_console.specs.declared.calls.Status.TheVariants.{Failed};
 ghost use Rattle.book_words.specs.Places.{FirstFeed, MovedFront, Standing};
 
 use book_console::calls::Status;
@@ -31,8 +32,8 @@ pub struct Input {
 pub struct Answers<'a> {
     pub out: &'a mut [u8],
     pub waiting: usize,
-    status: Status,
-    is_over: bool,
+    pub status: Status,
+    pub is_over: bool,
 }
 
 // A word of the input, without its line feed: it stood in the buffer of the input.
@@ -55,13 +56,17 @@ impl<'a> Answers<'a> {
     }
 
     // The run ends with a failure. Cost: constant.
-    fn fail(&mut self) {
+    pub fn fail(&mut self)
+        ensures { (self.new.waiting ≡ 0) × ((self.new.status ≡ Failed) × T self.new.is_over) }
+    {
         self.status = Status::Failed;
         self.end();
     }
 
     // The run is over; the status stays. Cost: constant.
-    fn end(&mut self) {
+    fn end(&mut self)
+        ensures { (self.new.waiting ≡ 0) × ((self.new.status ≡ self.old.status) × T self.new.is_over) }
+    {
         self.waiting = 0;
         self.is_over = true;
     }

@@ -61,7 +61,7 @@ fn judge_example(console: &Console, first: usize, second: usize) {
 // Arguments are taken two by two, a thousand at most.
 fn main(rt: HostRuntime) -> ExitCode {
     let console = &Console::new(rt);
-    let count = console.argument_count().unwrap_or(0);
+    let count = console.own_count().unwrap_or(0);
     for i in (0..count.min(999)).step_by(2) {
         judge_example(console, i, i + 1);
     }

@@ -34,7 +34,8 @@ const REASONS: [Reason; 20] = [
 fn main(rt: HostRuntime) -> ExitCode {
     let console = Console::new(rt);
     for reason in REASONS {
-        let _ = writeln!(console.out(), "{} {reason}", reason.number());
+        console.out().number(u64::from(reason.number()));
+        let _ = writeln!(console.out(), " {reason}");
     }
     console.last_status()
 }

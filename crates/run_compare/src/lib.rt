@@ -5,6 +5,8 @@
 // where something was refused or failed.
 #![tactic(auto)]
 
+ghost use Rattle.book_console.specs.Inputs.{IsFrontOrEmpty};
+
 use book_console::calls::{Status, Usage};
 use book_console::console::Console;
 use book_console::files::{load, read_named};
@@ -18,9 +20,11 @@ const USAGE: Usage = Usage {
     ways: &[b" [FIRST SECOND], first.mlb and second.mlb where none is named"],
 };
 
-// Reads the start of a file, and answers its bytes: none where it is missing or cannot be read. That it cannot be read is told on standard
-// error. Cost: one pass over the file, as far as it is read.
-fn load_if_there<'a>(console: &Console, path: &[u8], buffer: &'a mut [u8]) -> &'a [u8] {
+// Reads the start of a file to the front of `buffer`, and answers its bytes there: none where it is missing or cannot be read. That it cannot
+// be read is told on standard error. Cost: one pass over the file, as far as it is read.
+fn load_if_there<'a>(console: &Console, path: &[u8], buffer: &'a mut [u8]) -> &'a [u8]
+    ensures { IsFrontOrEmpty buffer.entry result }
+{
     match read_named(console, path, buffer) {
         Ok(bytes) => bytes,
         Err(error) => {

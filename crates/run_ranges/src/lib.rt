@@ -22,7 +22,6 @@ use format::Refusal;
 use format::fields::flags_at;
 use line_text::Line;
 use ranges::Fillings;
-use std::fmt::Write;
 
 const USAGE: Usage = Usage {
     command: b"ranges",
@@ -74,10 +73,11 @@ fn tell_refused<'a>(
 fn tell_unread<'a>(console: &Console, place: usize, word: &[u8], answers: &mut Answers<'a>) {
     answers.flush(console);
     say(console, Stream::Err, word);
-    let _ = writeln!(
-        console.err(),
-        ": the [ at byte {place} begins no range [x-y] of the automaton's letters"
-    );
+    console
+        .err()
+        .text(": the [ at byte ")
+        .number(place as u64)
+        .text(" begins no range [x-y] of the automaton's letters\n");
     answers.not_judged();
 }
 

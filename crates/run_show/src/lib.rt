@@ -20,11 +20,13 @@ const USAGE: Usage = Usage {
 // The line of a fault: its number, its place and what it means. Cost: the line.
 fn say_fault(console: &Console, stream: Stream, fault: Fault) {
     let Fault { reason, place } = fault;
-    let _ = writeln!(
-        console.on(stream),
-        "fault {} at byte {place}: {reason}",
-        reason.number()
-    );
+    console
+        .on(stream)
+        .text("fault ")
+        .number(u64::from(reason.number()))
+        .text(" at byte ")
+        .number(place as u64);
+    let _ = writeln!(console.on(stream), ": {reason}");
 }
 
 // What ends the file, or the line of its fault; that is told on standard error too, since a listing may go to a file, and a graph to another
