@@ -24,7 +24,7 @@ use word_layout::SetTable;
 // The letters that some side meets.
 // Cost: constant.
 fn met_by_some<const SETS: usize>(met: [u64; SETS]) -> u64
-    ensures { (l : ℕ) → bit result l ≡ false → (j : ℕ) → j < SETS → bit (get_or met.entry j 0) l ≡ false }
+    ensures { (l : ℕ) → (bit result l ≡ false) ↔ ((j : ℕ) → j < SETS → bit (get_or met.entry j 0) l ≡ false) }
 {
     let mut some = 0;
     for side in met.iter() {
@@ -35,7 +35,7 @@ fn met_by_some<const SETS: usize>(met: [u64; SETS]) -> u64
 
 // Is letter l not met?
 // Cost: constant.
-fn unmet(met: u64, l: usize) -> bool
+pub fn unmet(met: u64, l: usize) -> bool
     requires { l < 64 }
     ensures { result ≡ not (bit met l) }
 {
@@ -45,7 +45,7 @@ fn unmet(met: u64, l: usize) -> bool
 // The letter to be met behind l, of those before `end`; `end` or more where none is left. Where `dead`, the row that letters lead to which are
 // not met is known, and they are passed over.
 // Cost: constant.
-fn next_letter(met: u64, l: usize, end: usize, dead: bool) -> usize
+pub fn next_letter(met: u64, l: usize, end: usize, dead: bool) -> usize
     requires { (l < end) × (end ≤ 64) }
     ensures { NextLetter met dead l result }
 {

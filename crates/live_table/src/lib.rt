@@ -50,21 +50,18 @@ pub fn key_of(u: [u64; 4], v: [u64; 4]) -> usize
     (y % 509) as usize
 }
 
-// Does row i hold these sets? Set by set, so that a row whose first one differs is left at once.
+// Does row i hold these sets, the first of them and the last? Where a row has one set and two are asked for, it has to be both. A row whose
+// left set differs is left at once, and where one set is asked for nothing is compared twice.
 // Cost: constant.
 fn is_row<const SETS: usize>(w: &[u64], t: SetTable, i: usize, sets: [[u64; 4]; SETS]) -> bool
-    requires { (i < 512) × (Tabled w.now t × (t.sets ≡ SETS)) }
+    requires { (i < 512) × (Tabled w.now t × (t.sets ≤ SETS)) }
     ensures { T result ↔ LineAt t w.now sets.entry i }
 {
-    for (k, set) in sets.iter().enumerate() {
-        if !same(load(w, t.rows, SETS * i + k), *set) {
-            return false;
-        }
-    }
-    true
+    same(left(w, t, i), sets[0]) && (SETS == 1 || same(right(w, t, i), sets[SETS - 1]))
 }
 
-// The number of the row that holds these sets, if one of the first n does: along the chain of its key.
+// The number of the row that holds these sets, the first of them and the last, if one of the first n does: along the chain of its key. In a
+// table of one set a row two may be asked for, and no row holds two that differ.
 // Cost: as many steps as rows have its key; n at most.
 pub fn find_row<const SETS: usize>(
     w: &[u64],
@@ -72,7 +69,7 @@ pub fn find_row<const SETS: usize>(
     n: usize,
     sets: [[u64; 4]; SETS],
 ) -> Option<usize>
-    requires { (n ≤ 512) × ((Tabled w.now t × (t.sets ≡ SETS)) × RowChain t w.now n) }
+    requires { (n ≤ 512) × ((Tabled w.now t × (t.sets ≤ SETS)) × RowChain t w.now n) }
     ensures { FoundRow t w.now (first_set sets.entry) (last_set sets.entry) n result }
 {
     let mut g = get16(w, t.index + INDEX_HEADS, key_of(sets[0], sets[SETS - 1]));

@@ -17,8 +17,8 @@ use Rattle.count_targets.proofs.number_of.Goals as goal
 use Rattle.count_targets.proofs.number_of.Goals.{After-shared_slice_known-1, Else-met-l-ne0, Start}
 
 -- the table can be looked into
-ready : (s : goal.Start) (t : SetTable) → t ≡ set_table → (s.args.n ≤ 512) × ((Tabled s.args.w.now t × (t.sets ≡ 1)) × RowChain t s.args.w.now s.args.n)
-ready s t e = subst (λ (t : SetTable). (s.args.n ≤ 512) × ((Tabled s.args.w.now t × (t.sets ≡ 1)) × RowChain t s.args.w.now s.args.n)) (sym e) (s.requires.n_bound.0, ((tabled (omega (arith, s.requires.l_bound.1)), refl), s.requires.n_bound.1))
+ready : (s : goal.Start) (t : SetTable) → t ≡ set_table → (s.args.n ≤ 512) × ((Tabled s.args.w.now t × (t.sets ≤ 1)) × RowChain t s.args.w.now s.args.n)
+ready s t e = subst (λ (t : SetTable). (s.args.n ≤ 512) × ((Tabled s.args.w.now t × (t.sets ≤ 1)) × RowChain t s.args.w.now s.args.n)) (sym e) (s.requires.n_bound.0, ((tabled (omega (arith, s.requires.l_bound.1)), omega arith), s.requires.n_bound.1))
 
 pub find_row-requires : goal.find_row-requires
 find_row-requires c = (omega arith, ready (goal.at.find_row-requires c).Start _ c.set_table.ensures)
